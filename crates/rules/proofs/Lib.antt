@@ -1,0 +1,13 @@
+pub mod Older
+pub mod Histories
+pub mod Words
+pub mod Steps
+pub mod Calls
+pub mod Made
+pub mod Lines
+pub mod Laid
+pub mod WellLaid
+pub mod Stores
+pub mod OneCall
+pub mod Demand3
+pub mod Failure

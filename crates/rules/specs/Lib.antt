@@ -1,0 +1,8 @@
+pub mod Records
+pub mod Table
+pub mod Steps
+pub mod Lines
+pub mod Calls
+pub mod Lists
+pub mod TwoLists
+pub mod Worked

@@ -1,0 +1,101 @@
+-- Document 01, "A worked controller".
+use mathlib.Core.Path.{_≡_, refl}
+use mathlib.Core.Bool.{cond}
+use mathlib.Core.List.{List, [], _∷_, map}
+use Prim.Native.Nat.{ℕ, _+_, _*_}
+use lib.Dec.{eqb}
+use lib.ListN.{replicate}
+use lib.Count.{ones, onesIn}
+use Rattle.xdr.specs.Words.{word, bytes, words}
+use Rattle.rules.specs.Table.{size, layout, decoded, wellLaid}
+use Rattle.rules.specs.Steps.{Call, checkpoint, send, receipt}
+use Rattle.rules.specs.Lines.{round, rounds, failureLine}
+use Rattle.rules.specs.Calls.{Outcome, areaLength, failureAnswer, freshOn, stepOn, lineOn, failedOn}
+use Rattle.rules.specs.Lists.{Entry, entry, outcomesOn, tableAfter}
+
+-- the table that a fresh call leaves, whatever the bytes were
+abbrev freshTable : ℕ → ℕ → List ℕ
+freshTable n E = freshOn (replicate (size n E) 255) n E .table
+
+-- an area of m words
+abbrev area : ℕ → List ℕ
+area m = replicate (4 * m) 255
+
+-- an entry with an area of the exact length
+abbrev exact : ℕ → Call → Entry
+exact p call = entry p call (replicate (areaLength call) 255)
+
+abbrev pub workedCalls : List Entry
+workedCalls =
+    exact 0 checkpoint
+    ∷ exact 0 (send 1)
+    ∷ exact 1 (send 2)
+    ∷ exact 1 (receipt 0 1)
+    ∷ exact 1 (send 2)
+    ∷ exact 2 (receipt 1 2)
+    ∷ exact 2 (receipt 1 1)
+    ∷ []
+
+-- the table that they leave, section by section
+abbrev pub worked : List ℕ
+worked =
+    bytes
+    (3 ∷ 6
+    ∷ 2 ∷ 1 ∷ 1 ∷ 1 ∷ 1 ∷ 0 ∷ 3 ∷ 1 ∷ 1 ∷ 0 ∷ 0 ∷ 0 ∷ 0 ∷ 0 ∷ 0 ∷ 0 ∷ 0 ∷ 0 ∷ 0 ∷ 0 ∷ 0
+    ∷ 4 ∷ 1 ∷ 2 ∷ 3 ∷ 2 ∷ 1 ∷ 2 ∷ 1 ∷ 0 ∷ 4 ∷ 0 ∷ 1 ∷ 3 ∷ 2 ∷ 2 ∷ 0 ∷ 0 ∷ 0 ∷ 0 ∷ 0 ∷ 0
+    ∷ 3 ∷ 1 ∷ 0 ∷ 2 ∷ 1 ∷ 0 ∷ 4 ∷ 1 ∷ 2 ∷ 4 ∷ 1 ∷ 1 ∷ 0 ∷ 0 ∷ 0 ∷ 0 ∷ 0 ∷ 0 ∷ 0 ∷ 0 ∷ 0
+    ∷ [])
+
+pub worked-table : tableAfter (freshTable 3 6) workedCalls ≡ worked
+unfolding freshOn stepOn layout decoded wellLaid word
+worked-table = refl
+
+-- what an outcome answers: the number returned, then the words of the area where that is 0
+abbrev pub told : Outcome → List ℕ
+told o = o .returned ∷ cond (eqb (o .returned) 0) (words (o .area)) []
+
+-- a case: what the rules give, and what document 01 says
+pub record Case : Type 0 where
+  pub given : List ℕ
+  pub stated : List ℕ
+
+abbrev case : Outcome → List ℕ → Case
+case o ws = record { given = told o; stated = ws }
+
+abbrev pub cases : List Case
+cases =
+    case (lineOn worked (area 3) 0) (0 ∷ 0 ∷ 0 ∷ 0 ∷ [])
+    ∷ case (lineOn worked (area 3) 1) (0 ∷ 1 ∷ 2 ∷ 1 ∷ [])
+    ∷ case (lineOn worked (area 3) 2) (0 ∷ 2 ∷ 4 ∷ 3 ∷ [])
+    ∷ case (failedOn worked (area 5) 0) (0 ∷ 2 ∷ 4 ∷ 3 ∷ 0 ∷ 0 ∷ [])
+    ∷ case (failedOn worked (area 5) 1) (0 ∷ 1 ∷ 2 ∷ 1 ∷ 7 ∷ 3 ∷ [])
+    ∷ case (failedOn worked (area 5) 2) (0 ∷ 2 ∷ 2 ∷ 1 ∷ 6 ∷ 2 ∷ [])
+    ∷ case (failedOn worked (area 5) 4) (0 ∷ 2 ∷ 4 ∷ 1 ∷ 4 ∷ 1 ∷ [])
+    ∷ case (failedOn worked (area 5) 8) (11 ∷ [])
+    ∷ case (stepOn worked (area 2) 2 (receipt 1 1)) (8 ∷ [])
+    ∷ case (stepOn worked (area 2) 1 (receipt 0 2)) (7 ∷ [])
+    ∷ []
+
+-- P1 to P10
+pub worked-cases : map (λ (c : Case). c .given) cases ≡ map (λ (c : Case). c .stated) cases
+unfolding freshOn stepOn lineOn failedOn layout decoded wellLaid word failureAnswer failureLine rounds round ones onesIn
+worked-cases = refl
+
+-- the worked calls' answers
+pub worked-answers : map told (outcomesOn (freshTable 3 6) workedCalls)
+    ≡ (0 ∷ 1 ∷ [])
+    ∷ (0 ∷ 1 ∷ 1 ∷ [])
+    ∷ (0 ∷ 1 ∷ 0 ∷ [])
+    ∷ (0 ∷ 1 ∷ 1 ∷ [])
+    ∷ (0 ∷ 2 ∷ 1 ∷ [])
+    ∷ (0 ∷ 1 ∷ 1 ∷ [])
+    ∷ (0 ∷ 0 ∷ 0 ∷ [])
+    ∷ []
+unfolding freshOn stepOn layout decoded wellLaid word
+worked-answers = refl
+
+-- Receipts that carry the receiver's own number force nothing: 0 carries 1 to 1, which has a checkpoint of its own numbered 1.
+pub equal-number : map told (outcomesOn (freshTable 2 4) (exact 0 checkpoint ∷ exact 1 checkpoint ∷ exact 0 (send 1) ∷ exact 1 (receipt 0 1) ∷ []))
+    ≡ (0 ∷ 1 ∷ []) ∷ (0 ∷ 1 ∷ []) ∷ (0 ∷ 1 ∷ 1 ∷ []) ∷ (0 ∷ 1 ∷ 0 ∷ []) ∷ []
+unfolding freshOn stepOn layout decoded wellLaid word
+equal-number = refl

@@ -1,0 +1,199 @@
+-- Words and bytes: a word that was put is read back, every other word stays, and bytes are those of their words.
+use mathlib.Core.Path.{_≡_, refl, sym, ap, _∙_}
+use mathlib.Core.Logic.{_≢_, _⊎_, inl, inr}
+use mathlib.Core.List.{List, [], _∷_}
+use Prim.Native.Nat.{ℕ, zero, suc, _+_, _*_, _/_, _%_, _≤_, _<_}
+use native.Mathlib.Nat.{not-suc-le-zero, le-of-suc-le-suc, div-div-eq-div-mul, div-add-mod', mod-eq-of-lt}
+use native.Mathlib.Omega.{arith}
+use native.Mathlib.Decide.{decLt}
+use lib.ListN.{length, getD, set, length-set}
+use lib.Seq.{getD-set-same, getD-set-other}
+use Rattle.xdr.specs.Words.{word, bytes, words, putWord, putWords}
+
+-- ---- words as bytes
+
+digits : (x y z u c b a w : ℕ) → x ≡ c → a * 256 + u ≡ w → b * 256 + z ≡ a → c * 256 + y ≡ b → x * 16777216 + y * 65536 + z * 256 + u ≡ w
+digits x y z u c b a w d e f g = omega arith
+
+pub four : (w : ℕ) → w < 4294967296 → w / 16777216 % 256 * 16777216 + w / 65536 % 256 * 65536 + w / 256 % 256 * 256 + w % 256 ≡ w
+four w lt =
+    let a : w / 256 / 256 ≡ w / 65536 = div-div-eq-div-mul w 256 256 in
+    let b : w / 65536 / 256 ≡ w / 16777216 = div-div-eq-div-mul w 65536 256 in
+    let c : w / 16777216 < 256 = omega arith in
+    let d : w / 16777216 % 256 ≡ w / 16777216 = mod-eq-of-lt c in
+    let e : w / 256 * 256 + w % 256 ≡ w = div-add-mod' w 256 in
+    let f : w / 65536 * 256 + w / 256 % 256 ≡ w / 256 = rw a at (div-add-mod' (w / 256) 256) in
+    let g : w / 16777216 * 256 + w / 65536 % 256 ≡ w / 65536 = rw b at (div-add-mod' (w / 65536) 256) in
+    digits (w / 16777216 % 256) (w / 65536 % 256) (w / 256 % 256) (w % 256) (w / 16777216) (w / 65536) (w / 256) w d e f g
+
+pub word-bytes : (ws : List ℕ) (i : ℕ) → i < length ws → getD ws i 0 < 4294967296 → word (bytes ws) i ≡ getD ws i 0
+unfolding word
+word-bytes [] i lt small = absurd (not-suc-le-zero lt)
+word-bytes (w ∷ ws) zero lt small = four w small
+word-bytes (w ∷ ws) (suc i) lt small =
+    let a : 4 * suc i ≡ suc (suc (suc (suc (4 * i)))) = omega arith in
+    let b : 4 * suc i + 1 ≡ suc (suc (suc (suc (4 * i + 1)))) = omega arith in
+    let c : 4 * suc i + 2 ≡ suc (suc (suc (suc (4 * i + 2)))) = omega arith in
+    let d : 4 * suc i + 3 ≡ suc (suc (suc (suc (4 * i + 3)))) = omega arith in
+    rw (b, c, d, a) (word-bytes ws i (le-of-suc-le-suc lt) small)
+
+pub bytes-length : (ws : List ℕ) → length (bytes ws) ≡ 4 * length ws
+bytes-length [] = refl
+bytes-length (w ∷ ws) = let r = bytes-length ws in omega arith
+
+-- words that fit
+abbrev pub Small : List ℕ → Type 0
+Small [] = Unit {0}
+Small (x ∷ xs) = (x < 4294967296) × Small xs
+
+-- words that fit are read back
+pub words-bytes : (ws : List ℕ) → Small ws → words (bytes ws) ≡ ws
+words-bytes [] s = refl
+words-bytes (w ∷ ws) s = rw (four w (s .0), words-bytes ws (s .1))
+
+-- ---- bytes as words
+
+abbrev pub Bytes : List ℕ → Type 0
+Bytes t = (i : ℕ) → getD t i 0 < 256
+
+byte-digits : (x y z u w : ℕ) → x < 256 → y < 256 → z < 256 → u < 256 → x * 16777216 + y * 65536 + z * 256 + u ≡ w
+    → (x ≡ w / 16777216 % 256) × (y ≡ w / 65536 % 256) × (z ≡ w / 256 % 256) × (u ≡ w % 256)
+byte-digits x y z u w a b c d e =
+    let f : w / 16777216 ≡ x = omega arith in
+    let g : w / 65536 ≡ x * 256 + y = omega arith in
+    let h : w / 256 ≡ x * 65536 + y * 256 + z = omega arith in
+    (omega arith, omega arith, omega arith, omega arith)
+
+word-cons : (x y z u : ℕ) (t : List ℕ) (i : ℕ) → word (x ∷ y ∷ z ∷ u ∷ t) (suc i) ≡ word t i
+unfolding word
+word-cons x y z u t i =
+    let a : 4 * suc i ≡ suc (suc (suc (suc (4 * i)))) = omega arith in
+    let b : 4 * suc i + 1 ≡ suc (suc (suc (suc (4 * i + 1)))) = omega arith in
+    let c : 4 * suc i + 2 ≡ suc (suc (suc (suc (4 * i + 2)))) = omega arith in
+    let d : 4 * suc i + 3 ≡ suc (suc (suc (suc (4 * i + 3)))) = omega arith in
+    rw (b, c, d, a)
+
+-- a list of bytes is that of its words
+pub bytes-of : (ws t : List ℕ) → length t ≡ 4 * length ws → Bytes t → ((i : ℕ) → i < length ws → word t i ≡ getD ws i 0) → t ≡ bytes ws
+unfolding word
+bytes-of [] [] l b h = refl
+bytes-of [] (x ∷ t) l b h = absurd (omega arith)
+bytes-of (w ∷ ws) [] l b h = absurd (omega arith)
+bytes-of (w ∷ ws) (x ∷ []) l b h = absurd (omega arith)
+bytes-of (w ∷ ws) (x ∷ y ∷ []) l b h = absurd (omega arith)
+bytes-of (w ∷ ws) (x ∷ y ∷ z ∷ []) l b h = absurd (omega arith)
+bytes-of (w ∷ ws) (x ∷ y ∷ z ∷ u ∷ t) l b h =
+    let d = byte-digits x y z u w (b 0) (b 1) (b 2) (b 3) (h 0 (omega arith)) in
+    let r = bytes-of ws t (omega arith) (λ i. b (suc (suc (suc (suc i))))) (λ i lt. sym (word-cons x y z u t i) ∙ h (suc i) (omega arith)) in
+    λ i. d .0 i ∷ d .1 i ∷ d .2 i ∷ d .3 i ∷ r i
+
+-- ---- a word put
+
+pub put-length : (t : List ℕ) (i v : ℕ) → length (putWord t i v) ≡ length t
+unfolding putWord
+put-length t i v = simp length-set
+
+-- the byte at place k after the four stores, where k is none of the four places
+put-other : (t : List ℕ) (i v k : ℕ) → (k < 4 * i) ⊎ (4 * i + 3 < k) → getD (putWord t i v) k 0 ≡ getD t k 0
+unfolding putWord
+put-other t i v k o =
+    let a = set t (4 * i) (v / 16777216 % 256) in
+    let b = set a (4 * i + 1) (v / 65536 % 256) in
+    let c = set b (4 * i + 2) (v / 256 % 256) in
+    getD-set-other c (4 * i + 3) k (v % 256) 0 (apart (4 * i + 3) (omega arith) (omega arith) o)
+    ∙ getD-set-other b (4 * i + 2) k (v / 256 % 256) 0 (apart (4 * i + 2) (omega arith) (omega arith) o)
+    ∙ getD-set-other a (4 * i + 1) k (v / 65536 % 256) 0 (apart (4 * i + 1) (omega arith) (omega arith) o)
+    ∙ getD-set-other t (4 * i) k (v / 16777216 % 256) 0 (apart (4 * i) (omega arith) (omega arith) o)
+  where
+    apart : (m : ℕ) → 4 * i ≤ m → m ≤ 4 * i + 3 → (k < 4 * i) ⊎ (4 * i + 3 < k) → k ≢ m
+    apart m lo hi (inl x) = omega arith
+    apart m lo hi (inr x) = omega arith
+
+pub word-other : (t : List ℕ) (i v j : ℕ) → j ≢ i → word (putWord t i v) j ≡ word t j
+unfolding word
+word-other t i v j ne =
+    rw (
+      put-other t i v (4 * j) (side (decLt j i) (4 * j) (omega arith) (omega arith)),
+      put-other t i v (4 * j + 1) (side (decLt j i) (4 * j + 1) (omega arith) (omega arith)),
+      put-other t i v (4 * j + 2) (side (decLt j i) (4 * j + 2) (omega arith) (omega arith)),
+      put-other t i v (4 * j + 3) (side (decLt j i) (4 * j + 3) (omega arith) (omega arith)),
+    )
+  where
+    side : Dec (j < i) → (k : ℕ) → 4 * j ≤ k → k ≤ 4 * j + 3 → (k < 4 * i) ⊎ (4 * i + 3 < k)
+    side (yes l) k lo hi = inl (omega arith)
+    side (no l) k lo hi = inr (let x : i < j = omega arith in omega arith)
+
+pub word-same : (t : List ℕ) (i v : ℕ) → 4 * i + 3 < length t → v < 4294967296 → word (putWord t i v) i ≡ v
+unfolding word putWord
+word-same t i v lt small =
+    let a = set t (4 * i) (v / 16777216 % 256) in
+    let b = set a (4 * i + 1) (v / 65536 % 256) in
+    let c = set b (4 * i + 2) (v / 256 % 256) in
+    let la = length-set t (4 * i) (v / 16777216 % 256) in
+    let lb = length-set a (4 * i + 1) (v / 65536 % 256) in
+    let lc = length-set b (4 * i + 2) (v / 256 % 256) in
+    let d3 = getD-set-same c (4 * i + 3) (v % 256) 0 (omega arith) in
+    let d2 = getD-set-other c (4 * i + 3) (4 * i + 2) (v % 256) 0 (omega arith) ∙ getD-set-same b (4 * i + 2) (v / 256 % 256) 0 (omega arith) in
+    let d1 =
+    getD-set-other c (4 * i + 3) (4 * i + 1) (v % 256) 0 (omega arith) ∙ getD-set-other b (4 * i + 2) (4 * i + 1) (v / 256 % 256) 0 (omega arith)
+    ∙ getD-set-same a (4 * i + 1) (v / 65536 % 256) 0 (omega arith)
+    in
+    let d0 =
+    getD-set-other c (4 * i + 3) (4 * i) (v % 256) 0 (omega arith) ∙ getD-set-other b (4 * i + 2) (4 * i) (v / 256 % 256) 0 (omega arith)
+    ∙ getD-set-other a (4 * i + 1) (4 * i) (v / 65536 % 256) 0 (omega arith) ∙ getD-set-same t (4 * i) (v / 16777216 % 256) 0 (omega arith)
+    in
+    rw (d0, d1, d2, d3) (four v small)
+
+set-bytes : (t : List ℕ) → Bytes t → (i x : ℕ) → x < 256 → Bytes (set t i x)
+set-bytes [] b i x lt k = b k
+set-bytes (y ∷ t) b zero x lt zero = lt
+set-bytes (y ∷ t) b zero x lt (suc k) = b (suc k)
+set-bytes (y ∷ t) b (suc i) x lt zero = b 0
+set-bytes (y ∷ t) b (suc i) x lt (suc k) = set-bytes t (λ j. b (suc j)) i x lt k
+
+pub put-bytes : (t : List ℕ) (i v : ℕ) → Bytes t → Bytes (putWord t i v)
+unfolding putWord
+put-bytes t i v x =
+    let a = set t (4 * i) (v / 16777216 % 256) in
+    let b = set a (4 * i + 1) (v / 65536 % 256) in
+    let c = set b (4 * i + 2) (v / 256 % 256) in
+    set-bytes c
+    (set-bytes b
+    (set-bytes a (set-bytes t x (4 * i) (v / 16777216 % 256) (omega arith)) (4 * i + 1) (v / 65536 % 256) (omega arith))
+    (4 * i + 2) (v / 256 % 256) (omega arith))
+    (4 * i + 3) (v % 256) (omega arith)
+
+-- ---- words put one after the other
+
+pub all-length : (t : List ℕ) (i : ℕ) (vs : List ℕ) → length (putWords t i vs) ≡ length t
+unfolding putWords
+all-length t i [] = refl
+all-length t i (v ∷ vs) = all-length (putWord t i v) (suc i) vs ∙ put-length t i v
+
+pub all-bytes : (t : List ℕ) (i : ℕ) (vs : List ℕ) → Bytes t → Bytes (putWords t i vs)
+unfolding putWords
+all-bytes t i [] b = b
+all-bytes t i (v ∷ vs) b = all-bytes (putWord t i v) (suc i) vs (put-bytes t i v b)
+
+pub all-other : (t : List ℕ) (i : ℕ) (vs : List ℕ) (j : ℕ) → (j < i) ⊎ (i + length vs ≤ j) → word (putWords t i vs) j ≡ word t j
+unfolding putWords
+all-other t i [] j o = refl
+all-other t i (v ∷ vs) j o = all-other (putWord t i v) (suc i) vs j (further o) ∙ word-other t i v j (apart o)
+  where
+    further : (j < i) ⊎ (i + suc (length vs) ≤ j) → (j < suc i) ⊎ (suc i + length vs ≤ j)
+    further (inl x) = inl (omega arith)
+    further (inr x) = inr (omega arith)
+
+    apart : (j < i) ⊎ (i + suc (length vs) ≤ j) → j ≢ i
+    apart (inl x) = omega arith
+    apart (inr x) = omega arith
+
+pub all-at : (t : List ℕ) (i : ℕ) (vs : List ℕ) → Small vs → 4 * (i + length vs) ≤ length t → (j : ℕ) → j < length vs → word (putWords t i vs) (i + j) ≡ getD vs j 0
+unfolding putWords
+all-at t i [] s le j lt = absurd (not-suc-le-zero lt)
+all-at t i (v ∷ vs) s le zero lt =
+    ap (word (putWords (putWord t i v) (suc i) vs)) (let e : i + 0 ≡ i = omega arith in e)
+    ∙ all-other (putWord t i v) (suc i) vs i (inl (omega arith)) ∙ word-same t i v (omega arith) (s .0)
+all-at t i (v ∷ vs) s le (suc j) lt =
+    ap (word (putWords (putWord t i v) (suc i) vs)) (let e : i + suc j ≡ suc i + j = omega arith in e)
+    ∙ all-at (putWord t i v) (suc i) vs (s .1) (let l = put-length t i v in omega arith) j (le-of-suc-le-suc lt)
