@@ -10,9 +10,9 @@ use lib.ListN.{length, set, length-set, length-replicate, List·getD-eq-default}
 use lib.Seq.{ext-getD}
 use borrow.Author.Tests.{eqb-true, eqb-false, leb-true, leb-false}
 use Rattle.rules.specs.Records.{Event, basic, forced, sent, received, History, State, history}
-use Rattle.rules.specs.Table.{fresh}
+use Rattle.rules.specs.Table.{layout, fresh}
 use Rattle.rules.specs.Steps.{Call, checkpoint, send, receipt, forces, carries, grown, stepped}
-use Rattle.rules.specs.Calls.{Outcome, Row, first, stepRows, judged}
+use Rattle.rules.specs.Calls.{Outcome, answer, judged}
 use Rattle.rules.specs.Lists.{Entry, entry, acceptedCall, acceptedCalls, check, accepts, after, run, said, saidAll}
 use Rattle.rules.proofs.Older.{Older, same, newer, older-trans, older-append}
 use Rattle.rules.proofs.Histories.{Test, passes, fails, test}
@@ -40,16 +40,17 @@ calls-grown h (receipt q k) c = go (forces h c)
 abbrev pub accepted : ℕ → ℕ → ℕ → State → List Entry → List Call
 accepted p n E s l = acceptedCalls p l (saidAll n E s l)
 
-pub judged-returned : (rs : List Row) (t a t′ ws : List ℕ) → judged rs t a t′ ws .returned ≡ first rs
-judged-returned rs t a t′ ws = go (test (eqb (first rs) 0))
+pub judged-returned : (r : ℕ) (t a t′ ws : List ℕ) → judged r t a t′ ws .returned ≡ r
+judged-returned r t a t′ ws = go (test (eqb r 0))
   where
-    go : Test (eqb (first rs) 0) → judged rs t a t′ ws .returned ≡ first rs
-    go (passes e) = rw e (sym (eqb-true (first rs) 0 e))
+    go : Test (eqb r 0) → judged r t a t′ ws .returned ≡ r
+    go (passes e) = rw e (sym (eqb-true r 0 e))
     go (fails e) = rw e
 
 said-returned : (n E : ℕ) (s : State) (e : Entry) → said n E s e .returned ≡ check n E s e
-unfolding said check
-said-returned n E s (entry p call area) = judged-returned (stepRows n E s p call (length area)) _ _ _ _
+unfolding said
+said-returned n E s (entry p call area) =
+    judged-returned (check n E s (entry p call area)) (layout n E s) area (layout n E (stepped s p call)) (answer s p call)
 
 pub after-length : (n E : ℕ) (s : State) (e : Entry) → length (after n E s e) ≡ length s
 after-length n E s e = after-keeps (λ (t : State). length t ≡ length s) n E (λ t p call h A. length-set t p _ ∙ h) s e refl

@@ -2,7 +2,7 @@
 use mathlib.Core.Path.{_≡_, refl, sym, ap, ap₂, _∙_, subst}
 use mathlib.Core.Bool.{Bool, true, false, not, cond, _&&_}
 use mathlib.Core.List.{List, [], _∷_, _++_, map}
-use Prim.Native.Nat.{ℕ, _+_, _*_, _≤_, _<_}
+use Prim.Native.Nat.{ℕ, suc, _+_, _*_, _≤_, _<_}
 use native.Mathlib.Omega.{arith}
 use lib.Dec.{leb, ltb, eqb}
 use lib.ListN.{length}
@@ -54,16 +54,20 @@ module _ (n E : ℕ) (d : InRange n E) where
         )
 
     entry-said : (e : Entry) → entryOn (layout n E s) e ≡ said n E s e
-    unfolding stepOn said
+    unfolding stepOn said check
     entry-said (entry p call area) =
-        rw (layout-n n E d s M, layout-E n E d s M, layout-decoded n E d s M, first-append (tableRows (layout n E s)) (stepRows n E s p call (length area)) unmet-rows)
+        let t = layout n E s in
+        let rows = stepRows (word t 0) (word t 1) (decoded t) p call (length area) in
+        ap (λ (r : ℕ). judged r t area (layout (word t 0) (word t 1) (stepped (decoded t) p call)) (answer (decoded t) p call))
+        (first-append (tableRows t) rows unmet-rows)
+        ∙ rw (layout-n n E d s M, layout-E n E d s M, layout-decoded n E d s M)
 
     said-table : (e : Entry) → said n E s e .table ≡ layout n E (after n E s e)
-    unfolding said check
-    said-table (entry p call area) = go (eqb (first (stepRows n E s p call (length area))) 0)
+    unfolding said
+    said-table (entry p call area) = go (accepts n E s (entry p call area))
       where
         go : (b : Bool)
-            → cond b (outcome 0 (layout n E (stepped s p call)) (bytes (answer s p call))) (outcome (first (stepRows n E s p call (length area))) (layout n E s) area) .table
+            → cond b (outcome 0 (layout n E (stepped s p call)) (bytes (answer s p call))) (outcome (check n E s (entry p call area)) (layout n E s) area) .table
             ≡ layout n E (cond b (stepped s p call) s)
         go true = refl
         go false = refl
@@ -74,12 +78,10 @@ module _ (n E : ℕ) (d : InRange n E) where
     line-said : (N : ℕ) (area : List ℕ) → length area ≡ 4 * n → lineOn (layout n E s) area N ≡ outcome 0 (layout n E s) (bytes (numberedLine N s))
     unfolding lineOn
     line-said N area l =
-        rw (
-          layout-n n E d s M,
-          layout-decoded n E d s M,
-          first-append (tableRows (layout n E s)) (row 4 (not (eqb (length area) (4 * n))) ∷ []) unmet-rows,
-          eq-eqb (length area) (4 * n) l,
-        )
+        let t = layout n E s in
+        ap (λ (r : ℕ). judged r t area t (numberedLine N (decoded t)))
+        (first-append (tableRows t) (row 4 (not (eqb (length area) (4 * word t 0))) ∷ []) unmet-rows)
+        ∙ rw (layout-n n E d s M, layout-decoded n E d s M, eq-eqb (length area) (4 * n) l)
 
   outcomes-said : (l : List Entry) (s : State) → Made n E s → outcomesOn (layout n E s) l ≡ saidAll n E s l
   outcomes-said [] s M = refl
@@ -97,7 +99,7 @@ module _ (n E : ℕ) (d : InRange n E) where
       let a = numbered-le N h in
       let b = short 0 in
       let c = d .records in
-      (omega arith, small-line N s (λ p. short (1 + p)))
+      (omega arith, small-line N s (λ p. short (suc p)))
 
 -- ---- one list, and two
 
@@ -137,7 +139,7 @@ fresh-accepted : (lent : List ℕ) (n E : ℕ) → freshOn lent n E .returned �
 unfolding freshOn
 fresh-accepted lent n E r =
     let rows = row 1 (not (inRange n E)) ∷ row 2 (not (eqb (length lent) (size n E))) ∷ [] in
-    let z : first rows ≡ 0 = sym (judged-returned rows lent [] (layout n E (fresh n)) []) ∙ r in
+    let z : first rows ≡ 0 = sym (judged-returned (first rows) lent [] (layout n E (fresh n)) []) ∙ r in
     let m = none-met rows tt z in
     (in-range n E (not-false (inRange n E) (m .0)), rw (eq-eqb (first rows) 0 z))
 

@@ -13,9 +13,8 @@ use borrow.Author.Tests.{eqb-true, eqb-false, leb-true, ltb-true, ltb-false, eq-
 use Rattle.rules.specs.Records.{Event, basic, forced, sent, received, History, State, history, number, sends, carried, hasSend}
 use Rattle.rules.specs.Steps.{Call, checkpoint, send, receipt, forces, carries, added, grown, stepped}
 use Rattle.rules.specs.Calls.{needed, Row, row, first, tableRows}
-use Rattle.rules.specs.Lists.{Entry, entry, check, tableAfter}
 use Rattle.xdr.specs.Words.{word}
-use Rattle.rules.specs.Table.{layout, eventOf, recordsAt, start, sectionAt, recordOk, recordsOk, zerosAt, sectionOk, sectionsOk, decoded, size, inRange}
+use Rattle.rules.specs.Table.{layout, eventOf, recordsAt, start, sectionAt, recordOk, recordsOk, zerosAt, sectionOk, sectionsOk, decoded, size, inRange, wellLaid}
 use Rattle.rules.proofs.Histories.{Test, passes, fails, test, holds-held}
 use Rattle.rules.proofs.Steps.{NoneMet, Numbered, none-met, Accepted, accepted-met, grown-length}
 use Rattle.xdr.proofs.Laws.{Bytes, Small}

@@ -96,13 +96,14 @@ pub record Outcome : Type 0 where
 abbrev pub outcome : ℕ → List ℕ → List ℕ → Outcome
 outcome r t a = record { returned = r; table = t; area = a }
 
--- the first row met is returned, and table and area stay untouched; if none is met, 0, the new table and the answer's words
-abbrev pub judged : List Row → List ℕ → List ℕ → List ℕ → List ℕ → Outcome
-judged rows t a t′ ws = cond (eqb (first rows) 0) (outcome 0 t′ (bytes ws)) (outcome (first rows) t a)
+-- the number r of the first row met is returned, and table and area stay untouched; if none is met, 0, with the table t′ and the
+-- answer's words
+abbrev pub judged : ℕ → List ℕ → List ℕ → List ℕ → List ℕ → Outcome
+judged r t a t′ ws = cond (eqb r 0) (outcome 0 t′ (bytes ws)) (outcome r t a)
 
 -- fresh, which has no answer area
 unfoldable pub freshOn : List ℕ → ℕ → ℕ → Outcome
-freshOn t n E = judged (row 1 (not (inRange n E)) ∷ row 2 (not (eqb (length t) (size n E))) ∷ []) t [] (layout n E (fresh n)) []
+freshOn t n E = judged (first (row 1 (not (inRange n E)) ∷ row 2 (not (eqb (length t) (size n E))) ∷ [])) t [] (layout n E (fresh n)) []
 
 -- checkpoint, send and receipt at p
 unfoldable pub stepOn : List ℕ → List ℕ → ℕ → Call → Outcome
@@ -110,14 +111,14 @@ stepOn t a p call =
     let n = word t 0 in
     let E = word t 1 in
     let s = decoded t in
-    judged (tableRows t ++ stepRows n E s p call (length a)) t a (layout n E (stepped s p call)) (answer s p call)
+    judged (first (tableRows t ++ stepRows n E s p call (length a))) t a (layout n E (stepped s p call)) (answer s p call)
 
 -- numbered line N
 unfoldable pub lineOn : List ℕ → List ℕ → ℕ → Outcome
-lineOn t a N = judged (tableRows t ++ row 4 (not (eqb (length a) (4 * word t 0))) ∷ []) t a t (numberedLine N (decoded t))
+lineOn t a N = judged (first (tableRows t ++ row 4 (not (eqb (length a) (4 * word t 0))) ∷ [])) t a t (numberedLine N (decoded t))
 
 -- failure line
 unfoldable pub failedOn : List ℕ → List ℕ → ℕ → Outcome
 failedOn t a mask =
-    judged (tableRows t ++ row 4 (not (eqb (length a) (4 * word t 0 + 8))) ∷ row 11 (leb (2 ^ word t 0) mask) ∷ []) t a t
+    judged (first (tableRows t ++ row 4 (not (eqb (length a) (4 * word t 0 + 8))) ∷ row 11 (leb (2 ^ word t 0) mask) ∷ [])) t a t
     (failureAnswer mask (decoded t))

@@ -57,7 +57,7 @@ run n E s (e ∷ l) = run n E (after n E s e) l
 -- an entry's outcome
 unfoldable pub said : ℕ → ℕ → State → Entry → Outcome
 said n E s (entry p call area) =
-    judged (stepRows n E s p call (length area)) (layout n E s) area (layout n E (stepped s p call)) (answer s p call)
+    judged (check n E s (entry p call area)) (layout n E s) area (layout n E (stepped s p call)) (answer s p call)
 
 abbrev pub saidAll : ℕ → ℕ → State → List Entry → List Outcome
 saidAll n E s [] = []

@@ -1,0 +1,197 @@
+//! Calls, numbers and tables to try engines on, drawn from a seed.
+
+/// splitmix64: the same seed draws the same cases everywhere.
+pub struct Rng(u64);
+
+impl Rng {
+    pub fn new(seed: u64) -> Rng {
+        Rng(seed)
+    }
+
+    pub fn next(&mut self) -> u64 {
+        self.0 = self.0.wrapping_add(0x9E37_79B9_7F4A_7C15);
+        let z = (self.0 ^ self.0 >> 30).wrapping_mul(0xBF58_476D_1CE4_E5B9);
+        let z = (z ^ z >> 27).wrapping_mul(0x94D0_49BB_1331_11EB);
+        z ^ z >> 31
+    }
+
+    pub fn below(&mut self, bound: u32) -> u32 {
+        (self.next() >> 32) as u32 % bound
+    }
+
+    pub fn one_in(&mut self, times: u32) -> bool {
+        self.below(times) == 0
+    }
+
+    pub fn pick<T: Copy>(&mut self, from: &[T]) -> T {
+        from[self.below(from.len() as u32) as usize]
+    }
+
+    pub fn bytes(&mut self, length: usize) -> Vec<u8> {
+        (0..length).map(|_| self.next() as u8).collect()
+    }
+
+    /// A number at an edge of something, or anything.
+    pub fn extreme(&mut self, n: u32, e: u32) -> u32 {
+        let edge = self.pick(&[0, 1, n, e, n * e, 16, 1024, 1 << 8, 1 << 16, 1 << 31]);
+        match self.below(4) {
+            0 => edge,
+            1 => edge.wrapping_sub(1),
+            2 => edge + 1,
+            _ => self.next() as u32,
+        }
+    }
+
+    /// Mostly below the bound, now and then extreme.
+    pub fn around(&mut self, bound: u32, n: u32, e: u32) -> u32 {
+        if self.one_in(24) {
+            self.extreme(n, e)
+        } else {
+            self.below(bound)
+        }
+    }
+}
+
+#[derive(Clone, Copy, Debug, PartialEq, Eq)]
+pub enum Call {
+    Fresh { n: u32, e: u32 },
+    Checkpoint { p: u32 },
+    Send { p: u32, q: u32 },
+    Receipt { p: u32, q: u32, k: u32 },
+    Line { number: u32 },
+}
+
+impl Call {
+    /// The exact length of the answer area, for a table of n processes.
+    pub fn area_length(self, n: u32) -> usize {
+        match self {
+            Call::Fresh { .. } => 0,
+            Call::Checkpoint { .. } => 4,
+            Call::Send { .. } | Call::Receipt { .. } => 8,
+            Call::Line { .. } => 4 * n as usize,
+        }
+    }
+}
+
+pub fn table_length(n: u32, e: u32) -> usize {
+    8 + 12 * n as usize * (e as usize + 1)
+}
+
+pub fn from_words(words: &[u32]) -> Vec<u8> {
+    words.iter().flat_map(|w| w.to_be_bytes()).collect()
+}
+
+/// The whole words of the bytes; a remainder under four bytes is left out.
+pub fn to_words(bytes: &[u8]) -> Vec<u32> {
+    bytes.chunks_exact(4).map(|w| u32::from_be_bytes([w[0], w[1], w[2], w[3]])).collect()
+}
+
+/// The used records of each section of a well laid table.
+pub fn records(table: &[u8]) -> Vec<Vec<[u32; 3]>> {
+    let words = to_words(table);
+    let section = |s: &[u32]| s[3..].chunks_exact(3).take(s[0] as usize).map(|r| [r[0], r[1], r[2]]).collect();
+    words[2..].chunks_exact(3 + 3 * words[1] as usize).map(section).collect()
+}
+
+/// The receipt of every message sent in a well laid table, received or not.
+pub fn messages(table: &[u8]) -> Vec<Call> {
+    let mut receipts = Vec::new();
+    for (q, records) in records(table).iter().enumerate() {
+        let sends = records.iter().filter(|r| r[0] == 3);
+        receipts.extend(sends.map(|r| Call::Receipt { p: r[1], q: q as u32, k: r[2] }));
+    }
+    receipts
+}
+
+/// A step. Many receipts are of a known message, picked in any order, so that messages overtake each other.
+pub fn step(rng: &mut Rng, n: u32, e: u32, messages: &[Call]) -> Call {
+    let (p, q) = (rng.around(n, n, e), rng.around(n, n, e));
+    match rng.below(10) {
+        0 | 1 => Call::Checkpoint { p },
+        2..=4 => Call::Send { p, q },
+        5 => Call::Receipt { p, q, k: rng.around(e.min(4) + 2, n, e) },
+        _ if messages.is_empty() => Call::Send { p, q },
+        _ => rng.pick(messages),
+    }
+}
+
+/// Any call but fresh.
+pub fn step_or_line(rng: &mut Rng, n: u32, e: u32, messages: &[Call]) -> Call {
+    if rng.one_in(6) {
+        let top = rng.pick(&[4, n * e + 2]);
+        Call::Line { number: rng.around(top, n, e) }
+    } else {
+        step(rng, n, e, messages)
+    }
+}
+
+/// An area's length: mostly the exact one.
+pub fn area_length(rng: &mut Rng, exact: usize) -> usize {
+    if rng.one_in(16) {
+        rng.pick(&[0, 1, 3, 4, 7, 8, 9, exact + 1, exact + 4, exact.saturating_sub(1), exact.saturating_sub(4), 72])
+    } else {
+        exact
+    }
+}
+
+/// A well laid table, but mostly one that no run makes: checkpoint numbers fall, repeat, are 0 or n × E, forced
+/// checkpoints stand anywhere, receipts repeat, lack their send or are of a send to another process.
+pub fn well_laid(rng: &mut Rng, n: u32, e: u32) -> Vec<u8> {
+    let mut words = vec![n, e];
+    for p in 0..n {
+        let count = match rng.below(4) {
+            0 => e,
+            1 => e - 1,
+            _ => rng.below(e + 1),
+        };
+        let (mut number, mut sends) = (0, 0);
+        let mut section = Vec::with_capacity(3 * e as usize);
+        for _ in 0..count {
+            let other = if n == 1 { 0 } else { (p + 1 + rng.below(n - 1)) % n };
+            let record = match rng.below(if n == 1 { 3 } else { 10 }) {
+                kind @ 0..=2 => {
+                    number = match rng.below(6) {
+                        0 => 0,
+                        1 => n * e,
+                        2 => number,
+                        3 => number.saturating_sub(1),
+                        4 => rng.below(n * e + 1),
+                        _ => (number + 1).min(n * e),
+                    };
+                    [1 + kind % 2, number, 0]
+                }
+                3..=6 => {
+                    sends += 1;
+                    [3, other, sends]
+                }
+                _ => [4, other, 1 + rng.below(if rng.one_in(4) { e } else { e.min(4) })],
+            };
+            section.extend(record);
+        }
+        section.resize(3 * e as usize, 0);
+        words.extend([count, number, sends]);
+        words.extend(section);
+    }
+    from_words(&words)
+}
+
+/// Changes one to three places: a byte, or a word of the head, of a section's head, of a record, used or not.
+pub fn damage(rng: &mut Rng, table: &mut [u8], n: u32, e: u32) {
+    for _ in 0..1 + rng.below(3) {
+        let section = 2 + rng.below(n) * (3 + 3 * e);
+        let word = match rng.below(12) {
+            0 => rng.below(2),
+            1..=4 => section + rng.below(3),
+            5..=7 => section + 3 + rng.below(3 * e.min(4)),
+            _ => section + 3 + rng.below(3 * e),
+        };
+        let at = 4 * word as usize;
+        if rng.one_in(3) {
+            let byte = at + rng.below(4) as usize;
+            table[byte] ^= 1 << rng.below(8);
+        } else {
+            let value = if rng.one_in(2) { rng.below(6) } else { rng.extreme(n, e) };
+            table[at..at + 4].copy_from_slice(&value.to_be_bytes());
+        }
+    }
+}
