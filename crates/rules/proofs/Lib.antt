@@ -11,3 +11,4 @@ pub mod Stores
 pub mod OneCall
 pub mod Demand3
 pub mod Failure
+pub mod Scans

@@ -68,6 +68,14 @@ line-length N h = rw (first-is N h) (go (test (reached N h)))
     go (passes x) = rw x
     go (fails x) = rw (x, line-all N h x)
 
+-- one more record leaves the position where it is, once such a checkpoint is reached
+pub numbered-cons : (N : ℕ) (e : Event) (h : History) → numbered N (e ∷ h) ≡ cond (reached N h) (numbered N h) (suc (length h))
+numbered-cons N e h = rw (line-length N (e ∷ h), line-length N h) (go (reached N h))
+  where
+    go : (b : Bool) → length (cond b (lineOf N h) (e ∷ h)) ≡ cond b (length (lineOf N h)) (suc (length h))
+    go true = refl
+    go false = refl
+
 pub numbered-le : (N : ℕ) (h : History) → numbered N h ≤ length h
 numbered-le N h = subst (λ (x : ℕ). x ≤ length h) (sym (line-length N h)) (older-length (line-older N h))
 

@@ -142,7 +142,7 @@ impl Pair {
 
     /// The call with an area of the exact length. Answers the number returned and, if it is 0, the answer's words.
     pub fn exact(&mut self, call: Call) -> (u32, Vec<u32>) {
-        let n = u32::from_be_bytes(self.before[..4].try_into().unwrap());
+        let n = u32::from_be_bytes(self.table()[..4].try_into().unwrap());
         let (returned, area) = self.call(call, &vec![0xEE; call.area_length(n)]);
         (returned, if returned == 0 { cases::to_words(&area) } else { Vec::new() })
     }

@@ -89,7 +89,8 @@ pub fn to_words(bytes: &[u8]) -> Vec<u32> {
 /// The used records of each section of a well laid table.
 pub fn records(table: &[u8]) -> Vec<Vec<[u32; 3]>> {
     let words = to_words(table);
-    let section = |s: &[u32]| s[3..].chunks_exact(3).take(s[0] as usize).map(|r| [r[0], r[1], r[2]]).collect();
+    let section =
+        |s: &[u32]| s[3..].chunks_exact(3).take(s[0] as usize).map(|r| [r[0], r[1], r[2]]).collect();
     words[2..].chunks_exact(3 + 3 * words[1] as usize).map(section).collect()
 }
 
@@ -105,7 +106,9 @@ pub fn messages(table: &[u8]) -> Vec<Call> {
 
 /// A step. Many receipts are of a known message, picked in any order, so that messages overtake each other.
 pub fn step(rng: &mut Rng, n: u32, e: u32, messages: &[Call]) -> Call {
-    let (p, q) = (rng.around(n, n, e), rng.around(n, n, e));
+    let p = rng.around(n, n, e);
+    let q =
+        if n == 1 || p >= n || rng.one_in(8) { rng.around(n, n, e) } else { (p + 1 + rng.below(n - 1)) % n };
     match rng.below(10) {
         0 | 1 => Call::Checkpoint { p },
         2..=4 => Call::Send { p, q },
@@ -128,7 +131,20 @@ pub fn step_or_line(rng: &mut Rng, n: u32, e: u32, messages: &[Call]) -> Call {
 /// An area's length: mostly the exact one.
 pub fn area_length(rng: &mut Rng, exact: usize) -> usize {
     if rng.one_in(16) {
-        rng.pick(&[0, 1, 3, 4, 7, 8, 9, exact + 1, exact + 4, exact.saturating_sub(1), exact.saturating_sub(4), 72])
+        rng.pick(&[
+            0,
+            1,
+            3,
+            4,
+            7,
+            8,
+            9,
+            exact + 1,
+            exact + 4,
+            exact.saturating_sub(1),
+            exact.saturating_sub(4),
+            72,
+        ])
     } else {
         exact
     }
@@ -164,7 +180,10 @@ pub fn well_laid(rng: &mut Rng, n: u32, e: u32) -> Vec<u8> {
                     sends += 1;
                     [3, other, sends]
                 }
-                _ => [4, other, 1 + rng.below(if rng.one_in(4) { e } else { e.min(4) })],
+                _ => {
+                    let top = rng.pick(&[e, e.min(4), e.min(4)]);
+                    [4, other, 1 + rng.below(top)]
+                }
             };
             section.extend(record);
         }

@@ -1,0 +1,383 @@
+//! Document 01's own cases and its table of checks. Each number is asserted as the document has it, and every call is
+//! made beside the reference engine.
+use beside::{pair_of_words, Origin, Pair};
+use cases::Call::{self, Checkpoint, Fresh, Line, Receipt, Send};
+use cases::{from_words, records, table_length, to_words};
+
+const ORIGIN: Origin = Origin { test: "document 01", seed: 0, case: 0 };
+const MAX: u32 = u32::MAX;
+
+fn accept(pair: &mut Pair, calls: &[(Call, &[u32])]) {
+    for &(call, answer) in calls {
+        assert_eq!(pair.exact(call), (0, answer.to_vec()), "{call:?}");
+    }
+}
+
+fn worked_controller() -> Pair {
+    let mut pair = Pair::fresh(3, 6, ORIGIN);
+    accept(
+        &mut pair,
+        &[
+            (Checkpoint { p: 0 }, &[1]),
+            (Send { p: 0, q: 1 }, &[1, 1]),
+            (Send { p: 1, q: 2 }, &[1, 0]),
+            (Receipt { p: 1, q: 0, k: 1 }, &[1, 1]),
+            (Send { p: 1, q: 2 }, &[2, 1]),
+            (Receipt { p: 2, q: 1, k: 2 }, &[1, 1]),
+            (Receipt { p: 2, q: 1, k: 1 }, &[0, 0]),
+        ],
+    );
+    pair
+}
+
+#[test]
+fn the_worked_controller() {
+    let mut pair = worked_controller();
+    #[rustfmt::skip]
+    let table = from_words(&[
+        3, 6,
+        2, 1, 1,  1, 1, 0,  3, 1, 1,  0, 0, 0,  0, 0, 0,  0, 0, 0,  0, 0, 0,
+        4, 1, 2,  3, 2, 1,  2, 1, 0,  4, 0, 1,  3, 2, 2,  0, 0, 0,  0, 0, 0,
+        3, 1, 0,  2, 1, 0,  4, 1, 2,  4, 1, 1,  0, 0, 0,  0, 0, 0,  0, 0, 0,
+    ]);
+    assert_eq!(pair.table(), table);
+    let counts: Vec<usize> = records(pair.table()).iter().map(Vec::len).collect();
+    assert_eq!(counts, [2, 4, 3]);
+    let cases: [(Call, u32, &[u32]); 5] = [
+        (Line { number: 0 }, 0, &[0, 0, 0]),    // P1
+        (Line { number: 1 }, 0, &[1, 2, 1]),    // P2
+        (Line { number: 2 }, 0, &[2, 4, 3]),    // P3
+        (Receipt { p: 2, q: 1, k: 1 }, 8, &[]), // P9
+        (Receipt { p: 1, q: 0, k: 2 }, 7, &[]), // P10
+    ];
+    for (call, returned, answer) in cases {
+        assert_eq!(pair.exact(call), (returned, answer.to_vec()), "{call:?}");
+        assert_eq!(pair.table(), table, "{call:?}");
+    }
+}
+
+#[test]
+fn nine_when_too_few_records_are_free() {
+    let mut pair = Pair::fresh(2, 2, ORIGIN);
+    accept(&mut pair, &[(Checkpoint { p: 0 }, &[1]), (Send { p: 0, q: 1 }, &[1, 1])]);
+    assert_eq!(pair.exact(Checkpoint { p: 0 }).0, 9);
+    let mut unsent = Pair::new(pair.table(), ORIGIN);
+    accept(&mut pair, &[(Send { p: 1, q: 0 }, &[1, 0])]);
+    assert_eq!(pair.exact(Receipt { p: 1, q: 0, k: 1 }).0, 9);
+    // Without that send two records are free, which is enough to force.
+    accept(&mut unsent, &[(Receipt { p: 1, q: 0, k: 1 }, &[1, 1])]);
+    // One free record is enough where nothing is forced.
+    let mut pair = Pair::fresh(2, 2, ORIGIN);
+    accept(
+        &mut pair,
+        &[
+            (Send { p: 0, q: 1 }, &[1, 0]),
+            (Send { p: 1, q: 0 }, &[1, 0]),
+            (Receipt { p: 1, q: 0, k: 1 }, &[0, 0]),
+            (Checkpoint { p: 0 }, &[1]),
+        ],
+    );
+    assert_eq!(pair.exact(Checkpoint { p: 1 }).0, 9);
+    assert_eq!(pair.exact(Send { p: 1, q: 0 }).0, 9);
+}
+
+#[test]
+fn ten_on_a_table_that_no_run_makes() {
+    let mut pair = pair_of_words(&[1, 2, 1, 2, 0, 1, 2, 0, 0, 0, 0], ORIGIN);
+    assert_eq!(pair.exact(Checkpoint { p: 0 }).0, 10);
+    let mut pair = pair_of_words(&[1, 2, 1, 1, 0, 1, 1, 0, 0, 0, 0], ORIGIN);
+    assert_eq!(pair.exact(Checkpoint { p: 0 }), (0, vec![2]));
+}
+
+#[test]
+fn the_three_lengths() {
+    for (n, e, length) in [(1, 1, 32), (8, 256, 24_680), (16, 1024, 196_808)] {
+        let mut zeros = vec![0; length / 4];
+        zeros[..2].copy_from_slice(&[n, e]);
+        let mut pair = Pair::new(&vec![0xEE; length], ORIGIN);
+        assert_eq!(pair.call(Fresh { n, e }, &[]).0, 0);
+        assert_eq!(pair.table(), from_words(&zeros));
+        assert_eq!(pair.exact(Line { number: MAX }), (0, vec![0; n as usize]));
+        for other in [length - 1, length + 1] {
+            assert_eq!(Pair::new(&vec![0xEE; other], ORIGIN).call(Fresh { n, e }, &[]).0, 2);
+            // The other calls too, on what would be a fresh table.
+            let mut table = from_words(&zeros);
+            table.resize(other, 0);
+            assert_eq!(Pair::new(&table, ORIGIN).call(Line { number: 0 }, &vec![0; 4 * n as usize]).0, 2);
+        }
+    }
+}
+
+/// One call of each kind but fresh.
+const CALLS: [Call; 4] =
+    [Checkpoint { p: 0 }, Send { p: 0, q: 1 }, Receipt { p: 0, q: 1, k: 1 }, Line { number: 0 }];
+
+#[test]
+fn tables_under_eight_bytes() {
+    for length in 0..8 {
+        // The bytes that are there begin a good table, or one whose dimensions are out of range.
+        for head in [[3, 6], [17, 6], [0, 0]] {
+            let table = &from_words(&head)[..length];
+            for call in CALLS {
+                for area in [0, 4, 8, 12] {
+                    assert_eq!(Pair::new(table, ORIGIN).call(call, &vec![0; area]).0, 2, "{call:?}");
+                }
+            }
+            for (n, e) in [(1, 1), (3, 6), (16, 1024)] {
+                assert_eq!(Pair::new(table, ORIGIN).call(Fresh { n, e }, &[]).0, 2);
+            }
+            for (n, e) in [(0, 1), (1, 0), (17, 1), (1, 1025), (MAX, MAX), (1 << 31, 1)] {
+                assert_eq!(Pair::new(table, ORIGIN).call(Fresh { n, e }, &[]).0, 1);
+            }
+        }
+    }
+    // Eight bytes have dimensions: those out of range come first, the length is wrong for all others.
+    for (head, returned) in [([3, 6], 2), ([1, 1], 2), ([17, 6], 1), ([0, 1], 1), ([1, 0], 1), ([1, 1025], 1)]
+    {
+        for call in CALLS {
+            assert_eq!(
+                Pair::new(&from_words(&head), ORIGIN).call(call, &[]).0,
+                returned,
+                "{call:?} {head:?}"
+            );
+        }
+    }
+}
+
+#[test]
+fn empty_slices_without_bytes_behind_them() {
+    assert_eq!(ckpt::fresh(&mut [], 1, 1), 2);
+    assert_eq!(ckpt::fresh(&mut [], 0, 1), 1);
+    assert_eq!(ckpt::checkpoint(&mut [], &mut [], 0), 2);
+    assert_eq!(ckpt::send(&mut [], &mut [], 0, 1), 2);
+    assert_eq!(ckpt::receipt(&mut [], &mut [], 0, 1, 1), 2);
+    assert_eq!(ckpt::line(&[], &mut [], 0), 2);
+    let mut table = worked_controller().table().to_vec();
+    let before = table.clone();
+    assert_eq!(ckpt::checkpoint(&mut table, &mut [], 0), 4);
+    assert_eq!(ckpt::send(&mut table, &mut [], 0, 1), 4);
+    assert_eq!(ckpt::receipt(&mut table, &mut [], 0, 1, 1), 4);
+    assert_eq!(ckpt::line(&table, &mut [], 0), 4);
+    assert_eq!(table, before);
+}
+
+#[test]
+fn both_of_two_overtaking_messages_are_received() {
+    let mut pair = Pair::fresh(2, 4, ORIGIN);
+    accept(
+        &mut pair,
+        &[
+            (Send { p: 0, q: 1 }, &[1, 0]),
+            (Checkpoint { p: 0 }, &[1]),
+            (Send { p: 0, q: 1 }, &[2, 1]),
+            (Receipt { p: 1, q: 0, k: 2 }, &[1, 1]),
+            (Receipt { p: 1, q: 0, k: 1 }, &[0, 0]),
+        ],
+    );
+    assert_eq!(pair.exact(Receipt { p: 1, q: 0, k: 2 }).0, 8);
+    assert_eq!(pair.exact(Receipt { p: 1, q: 0, k: 1 }).0, 8);
+    assert_eq!(records(pair.table())[1], [[2, 1, 0], [4, 0, 2], [4, 0, 1]]);
+}
+
+#[test]
+fn an_equal_number_forces_nothing() {
+    let mut pair = Pair::fresh(2, 4, ORIGIN);
+    accept(
+        &mut pair,
+        &[
+            (Checkpoint { p: 0 }, &[1]),
+            (Checkpoint { p: 1 }, &[1]),
+            (Send { p: 0, q: 1 }, &[1, 1]),
+            (Receipt { p: 1, q: 0, k: 1 }, &[1, 0]),
+            (Checkpoint { p: 0 }, &[2]),
+            (Send { p: 0, q: 1 }, &[2, 2]),
+            (Receipt { p: 1, q: 0, k: 2 }, &[2, 1]),
+        ],
+    );
+    assert_eq!(records(pair.table())[1], [[1, 1, 0], [4, 0, 1], [2, 2, 0], [4, 0, 2]]);
+}
+
+/// n = 3, E = 4. Process 0 has no record free and the number 12 = n × E. Its receipts of (1, 2) and (1, 4) are of a
+/// send to another process and of one that isn't there.
+#[rustfmt::skip]
+const FULL: [u32; 47] = [
+    3, 4,
+    4, 12, 0,  1, 12, 0,  4, 1, 1,  4, 1, 2,  4, 1, 4,
+    4, 2, 3,   3, 0, 1,   3, 2, 2,  1, 2, 0,  3, 0, 3,
+    0, 0, 0,   0, 0, 0,   0, 0, 0,  0, 0, 0,  0, 0, 0,
+];
+
+/// FULL with the last record of process 0 unused.
+fn one_free() -> Vec<u32> {
+    let mut words = FULL.to_vec();
+    words[2] = 3;
+    words[14..17].fill(0);
+    words
+}
+
+/// The same again with another number at process 0: 12 meets row 10, 1 is under the number that (1, 3) carries.
+fn one_free_at(number: u32) -> Vec<u32> {
+    let mut words = one_free();
+    (words[3], words[6]) = (number, number);
+    words
+}
+
+/// Tables that meet rows 2, 1, 2 and 3, each all rows of the table that come after as well; then the number.
+fn bad_tables() -> Vec<(Vec<u8>, u32)> {
+    let mut words = FULL.to_vec();
+    words[2] = 5; // c above E
+    let laid_badly = from_words(&words);
+    let long = [&laid_badly[..], &[0]].concat();
+    words[0] = 17;
+    let dimensions = [&from_words(&words)[..], &[0]].concat();
+    vec![(dimensions[..7].to_vec(), 2), (dimensions, 1), (long, 2), (laid_badly, 3)]
+}
+
+/// Each case meets its row and, as far as they can be met together, all rows after it. Repaired row by row, they show
+/// the next number each time.
+#[test]
+fn the_first_row_met_is_returned() {
+    let full = from_words(&FULL);
+    let check = |table: &[u8], call: Call, area: usize, returned: u32| {
+        assert_eq!(
+            Pair::new(table, ORIGIN).call(call, &vec![0xEE; area]).0,
+            returned,
+            "{call:?}, area of {area}"
+        );
+    };
+    let outside =
+        [Checkpoint { p: 3 }, Send { p: 3, q: 3 }, Receipt { p: 3, q: 3, k: 0 }, Line { number: MAX }];
+    for call in outside {
+        for (table, returned) in bad_tables() {
+            check(&table, call, 7, returned);
+        }
+        for area in [0, 1, 3, 5, 7, 9, 11, 13, 16, 20] {
+            check(&full, call, area, 4);
+        }
+    }
+    // Areas of another call's length.
+    check(&full, Checkpoint { p: 3 }, 8, 4);
+    check(&full, Send { p: 3, q: 3 }, 4, 4);
+    check(&full, Receipt { p: 3, q: 3, k: 0 }, 4, 4);
+    check(&full, Line { number: 0 }, 8, 4);
+
+    for p in [3, 4, 16, 1 << 31, MAX] {
+        check(&full, Checkpoint { p }, 4, 5);
+        for q in [0, 3, p] {
+            check(&full, Send { p, q }, 8, 5);
+            check(&full, Receipt { p, q, k: 0 }, 8, 5);
+        }
+    }
+    for q in [0, 3, 4, 16, 1 << 31, MAX] {
+        check(&full, Send { p: 0, q }, 8, 6);
+        check(&full, Receipt { p: 0, q, k: 0 }, 8, 6);
+    }
+    // 0 and 5 and more are no send; 4 is above the send count; 2 is a send to process 2. Process 0 has receipts of
+    // (1, 2) and (1, 4), and no record free.
+    for k in [0, 2, 4, 5, 1 << 31, MAX] {
+        check(&full, Receipt { p: 0, q: 1, k }, 8, 7);
+    }
+    check(&full, Receipt { p: 0, q: 1, k: 1 }, 8, 8);
+    check(&full, Receipt { p: 0, q: 1, k: 3 }, 8, 9);
+    check(&full, Send { p: 0, q: 1 }, 8, 9);
+    check(&full, Checkpoint { p: 0 }, 4, 9);
+    check(&from_words(&one_free()), Checkpoint { p: 0 }, 4, 10);
+
+    // Nothing is met any more.
+    check(&from_words(&one_free_at(11)), Checkpoint { p: 0 }, 4, 0);
+    check(&from_words(&one_free()), Send { p: 0, q: 1 }, 8, 0);
+    check(&from_words(&one_free()), Receipt { p: 0, q: 1, k: 3 }, 8, 0);
+    check(&full, Line { number: MAX }, 12, 0);
+    // (1, 3) carries 2: at number 2 it takes the one record that is free, at number 1 it would force.
+    check(&from_words(&one_free_at(2)), Receipt { p: 0, q: 1, k: 3 }, 8, 0);
+    check(&from_words(&one_free_at(1)), Receipt { p: 0, q: 1, k: 3 }, 8, 9);
+}
+
+#[test]
+fn fresh_checks_dimensions_before_the_length() {
+    let out =
+        [(0, 1), (1, 0), (0, 0), (17, 1), (16, 1025), (1, 1025), (MAX, MAX), (1 << 31, 1), (1, 1 << 31)];
+    for (n, e) in out {
+        for length in [0, 7, 8, 20, 32, 33] {
+            assert_eq!(Pair::new(&vec![0xEE; length], ORIGIN).call(Fresh { n, e }, &[]).0, 1, "{n}, {e}");
+        }
+    }
+    for (n, e) in [(1, 1), (16, 1), (1, 1024), (2, 3), (16, 1024)] {
+        let exact = table_length(n, e);
+        for length in [0, 7, 8, exact - 4, exact - 1, exact + 1, exact + 4, exact + 12] {
+            assert_eq!(Pair::new(&vec![0xEE; length], ORIGIN).call(Fresh { n, e }, &[]).0, 2, "{n}, {e}");
+        }
+        assert_eq!(Pair::new(&vec![0xEE; exact], ORIGIN).call(Fresh { n, e }, &[]).0, 0);
+    }
+}
+
+/// Document 01's sentence on well laid tables, clause by clause: word i of the worked controller's table changed to v.
+#[test]
+fn each_clause_of_well_laid() {
+    let worked = to_words(worked_controller().table());
+    let with = |changes: &[(usize, u32)]| {
+        let mut words = worked.clone();
+        for &(i, v) in changes {
+            words[i] = v;
+        }
+        pair_of_words(&words, ORIGIN)
+    };
+    // Sections start at words 2, 23 and 44; the records follow three words later.
+    let bad: [&[(usize, u32)]; 27] = [
+        &[(2, 7)], // c above E
+        &[(2, MAX)],
+        &[(2, 3)], // a used record of kind 0
+        &[(2, 1)], // an unused record that isn't 0
+        &[(5, 0)], // kinds that aren't in the table
+        &[(5, 5)],
+        &[(5, 1 << 24 | 1)],
+        &[(6, 19), (3, 19)], // a checkpoint number above n × E
+        &[(47, 0xFFFF_FFFF), (45, 0xFFFF_FFFF)],
+        &[(7, 1)], // a checkpoint's b isn't 0
+        &[(49, 1)],
+        &[(9, 0)], // a send to its own process
+        &[(9, 3)], // a send to a process that isn't there
+        &[(9, MAX)],
+        &[(10, 0)], // send numbers that aren't the send's place
+        &[(10, 2)],
+        &[(37, 1)],
+        &[(28, 2), (37, 1)],
+        &[(33, 1)], // a receipt from its own process
+        &[(33, 3)], // a receipt from a process that isn't there
+        &[(34, 0)], // a receipt's send number outside 1 to E
+        &[(34, 7)],
+        &[(3, 0)], // the current number isn't the last checkpoint's
+        &[(45, 2)],
+        &[(25, 1)], // the send count isn't the number of sends
+        &[(46, 1)],
+        &[(64, 1)], // the last word of the last unused record
+    ];
+    for changes in bad {
+        for call in
+            [Checkpoint { p: 0 }, Send { p: 0, q: 1 }, Receipt { p: 2, q: 1, k: 2 }, Line { number: 1 }]
+        {
+            assert_eq!(with(changes).exact(call).0, 3, "{changes:?}, {call:?}");
+        }
+    }
+    // What no run makes and well laid allows.
+    let good: [&[(usize, u32)]; 7] = [
+        &[(6, 18), (3, 18)],          // a number of n × E
+        &[(6, 0), (3, 0)],            // a number of 0
+        &[(5, 2)],                    // a forced checkpoint anywhere
+        &[(34, 6)],                   // a receipt without its send
+        &[(33, 2)],                   // a receipt from a process that sent nothing
+        &[(53, 4), (54, 1), (55, 2)], // the same receipt twice
+        &[(9, 2)],                    // a send whose receipt another process has
+    ];
+    for changes in good {
+        assert_eq!(with(changes).exact(Line { number: 0 }), (0, vec![0, 0, 0]), "{changes:?}");
+    }
+    // Current number and send count are those of the last and not of the largest or first.
+    let falling = [1, 3, 2, 1, 0, 1, 3, 0, 2, 1, 0, 0, 0, 0];
+    assert_eq!(pair_of_words(&falling, ORIGIN).exact(Checkpoint { p: 0 }), (0, vec![2]));
+    assert_eq!(pair_of_words(&falling, ORIGIN).exact(Line { number: 1 }), (0, vec![1]));
+    assert_eq!(
+        pair_of_words(&[1, 3, 2, 3, 0, 1, 3, 0, 2, 1, 0, 0, 0, 0], ORIGIN).exact(Line { number: 1 }).0,
+        3
+    );
+}
