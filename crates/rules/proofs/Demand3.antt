@@ -16,20 +16,12 @@ use Rattle.rules.specs.Lines.{NoOrphan, numbered, numberedLine}
 use Rattle.rules.specs.Calls.{Outcome, outcome, Row, row, first, tableRows, stepRows, answer, judged, freshOn, stepOn, lineOn}
 use Rattle.rules.specs.Lists.{Entry, entry, entryOn, outcomesOn, tableAfter, acceptedCalls, check, accepts, after, run, said, saidAll}
 use Rattle.rules.specs.TwoLists.{AfterList, Both, TwoLists}
-use Rattle.rules.proofs.Steps.{NoneMet, none-met}
+use Rattle.rules.proofs.Steps.{NoneMet, none-met, first-append, first-none}
 use Rattle.rules.proofs.Calls.{judged-returned, same-state}
 use Rattle.rules.proofs.Made.{Made, made, made-after, made-fresh, never-ten}
 use Rattle.rules.proofs.Lines.{numbered-le, line-clean}
 use Rattle.rules.proofs.Laid.{InRange, layout-n, layout-E, layout-length, layout-ok, layout-decoded}
 use Rattle.rules.proofs.OneCall.{in-range}
-
-pub first-append : (rs qs : List Row) → NoneMet rs → first (rs ++ qs) ≡ first qs
-first-append [] qs m = refl
-first-append (row r b ∷ rs) qs m = rw (m .0) (first-append rs qs (m .1))
-
-first-none : (rs : List Row) → NoneMet rs → first rs ≡ 0
-first-none [] m = refl
-first-none (row r b ∷ rs) m = rw (m .0) (first-none rs (m .1))
 
 -- ---- calls on the table of a made state
 

@@ -12,3 +12,4 @@ pub mod OneCall
 pub mod Demand3
 pub mod Failure
 pub mod Scans
+pub mod Outcomes

@@ -86,21 +86,21 @@ section-legal n E w p ok =
     let t5 = zerosAt w (at + 3 + 3 * c) (3 * (E - c)) in
     records-legal n E w p (at + 3) c (and-right t1 t2 (and-left (t1 && t2) t3 (and-left (t1 && t2 && t3) t4 (and-left (t1 && t2 && t3 && t4) t5 ok))))
 
-table-legal : (n E : ℕ) (t : List ℕ) → IsTable n E t → (p : ℕ) → Legal n E p (history (decoded t) p)
+pub table-legal : (n E : ℕ) (t : List ℕ) → IsTable n E t → (p : ℕ) → Legal n E p (history (decoded t) p)
 table-legal n E t T p = go (decLt p n)
   where
     go : Dec (p < n) → Legal n E p (history (decoded t) p)
     go (yes lt) = rw (decoded-at n E t T p lt) (section-legal n E (word t) p (sections-each n E (word t) n (T .laid) p lt))
     go (no l) = rw (decoded-is n E t T, from-beyond (word t) E 0 n p (omega arith)) tt
 
-legal-number : (n E p : ℕ) (h : History) → Legal n E p h → number h ≤ n * E
+pub legal-number : (n E p : ℕ) (h : History) → Legal n E p h → number h ≤ n * E
 legal-number n E p [] L = zero-le
 legal-number n E p (basic m ∷ h) L = L .0
 legal-number n E p (forced m ∷ h) L = L .0
 legal-number n E p (sent q ∷ h) L = legal-number n E p h (L .3)
 legal-number n E p (received q k ∷ h) L = legal-number n E p h (L .4)
 
-legal-carried : (n E p : ℕ) (h : History) (k : ℕ) → Legal n E p h → carried h k ≤ n * E
+pub legal-carried : (n E p : ℕ) (h : History) (k : ℕ) → Legal n E p h → carried h k ≤ n * E
 legal-carried n E p [] k L = zero-le
 legal-carried n E p (basic m ∷ h) k L = legal-carried n E p h k (L .1)
 legal-carried n E p (forced m ∷ h) k L = legal-carried n E p h k (L .1)

@@ -36,6 +36,14 @@ none-met (row zero m ∷ rs) w e = absurd w
 none-met (row (suc r) true ∷ rs) w e = absurd (omega arith)
 none-met (row (suc r) false ∷ rs) w e = (refl, none-met rs w e)
 
+pub first-append : (rs qs : List Row) → NoneMet rs → first (rs ++ qs) ≡ first qs
+first-append [] qs m = refl
+first-append (row r b ∷ rs) qs m = rw (m .0) (first-append rs qs (m .1))
+
+pub first-none : (rs : List Row) → NoneMet rs → first rs ≡ 0
+first-none [] m = refl
+first-none (row r b ∷ rs) m = rw (m .0) (first-none rs (m .1))
+
 pub or-false : (a b : Bool) → (a || b) ≡ false → (a ≡ false) × (b ≡ false)
 or-false true b e = absurd (let z : _≡_ {A = ℕ} 0 1 = cc in omega arith)
 or-false false b e = (refl, e)

@@ -76,14 +76,16 @@ numberRows n E h checkpoint = row 10 (eqb (number h) (n * E)) ∷ []
 numberRows n E h (send q) = []
 numberRows n E h (receipt q k) = []
 
+-- the rows behind the acting process
+abbrev pub laterRows : ℕ → ℕ → State → ℕ → Call → List Row
+laterRows n E s p call =
+    messageRows n s p call
+    ++ row 9 (ltb E (length (history s p) + needed (history s p) call (carries s call)))
+    ∷ numberRows n E (history s p) call
+
 -- a step's rows from the answer area on, where the area has len bytes
 abbrev pub stepRows : ℕ → ℕ → State → ℕ → Call → ℕ → List Row
-stepRows n E s p call len =
-    row 4 (not (eqb len (areaLength call)))
-    ∷ row 5 (leb n p)
-    ∷ (messageRows n s p call
-    ++ row 9 (ltb E (length (history s p) + needed (history s p) call (carries s call)))
-    ∷ numberRows n E (history s p) call)
+stepRows n E s p call len = row 4 (not (eqb len (areaLength call))) ∷ row 5 (leb n p) ∷ laterRows n E s p call
 
 -- ---- outcomes
 

@@ -1,9 +1,9 @@
 -- Words and bytes: a word that was put is read back, every other word stays, and bytes are those of their words.
 use mathlib.Core.Path.{_≡_, refl, sym, ap, _∙_}
 use mathlib.Core.Logic.{_≢_, _⊎_, inl, inr}
-use mathlib.Core.List.{List, [], _∷_}
+use mathlib.Core.List.{List, [], _∷_, _++_}
 use Prim.Native.Nat.{ℕ, zero, suc, _+_, _*_, _/_, _%_, _≤_, _<_}
-use native.Mathlib.Nat.{not-suc-le-zero, le-of-suc-le-suc, div-div-eq-div-mul, div-add-mod', mod-eq-of-lt}
+use native.Mathlib.Nat.{zero-add, add-zero, not-suc-le-zero, le-of-suc-le-suc, div-div-eq-div-mul, div-add-mod', mod-eq-of-lt}
 use native.Mathlib.Omega.{arith}
 use native.Mathlib.Decide.{decLt}
 use lib.ListN.{length, getD, set, length-set}
@@ -197,3 +197,23 @@ all-at t i (v ∷ vs) s le zero lt =
 all-at t i (v ∷ vs) s le (suc j) lt =
     ap (word (putWords (putWord t i v) (suc i) vs)) (let e : i + suc j ≡ suc i + j = omega arith in e)
     ∙ all-at (putWord t i v) (suc i) vs (s .1) (let l = put-length t i v in omega arith) j (le-of-suc-le-suc lt)
+
+pub three-puts : (t : List ℕ) (i x y z : ℕ) {t₁ t₂ t₃ : List ℕ} → t₁ ≡ putWord t i x → t₂ ≡ putWord t₁ (i + 1) y → t₃ ≡ putWord t₂ (i + 2) z
+    → t₃ ≡ putWords t i (x ∷ y ∷ z ∷ [])
+unfolding putWords
+three-puts t i x y z a b c =
+    let one : i + 1 ≡ suc i = omega arith in
+    let two : i + 2 ≡ suc (suc i) = omega arith in
+    rw (c, b, a, one, two)
+
+-- words put over the whole of some bytes leave their bytes
+pub all-put : (t ws : List ℕ) → Bytes t → Small ws → length t ≡ 4 * length ws → putWords t 0 ws ≡ bytes ws
+all-put t ws b s l =
+    bytes-of ws (putWords t 0 ws) (all-length t 0 ws ∙ l) (all-bytes t 0 ws b)
+    (λ i lt. ap (word (putWords t 0 ws)) (sym (zero-add i)) ∙ all-at t 0 ws s (omega arith) i lt)
+
+-- words put one part after the other
+pub put-append : (t : List ℕ) (i : ℕ) (vs us : List ℕ) {j : ℕ} → j ≡ i + length vs → putWords (putWords t i vs) j us ≡ putWords t i (vs ++ us)
+unfolding putWords
+put-append t i [] us e = let z : _ ≡ i = e ∙ add-zero i in rw z
+put-append t i (v ∷ vs) us e = put-append (putWord t i v) (suc i) vs us (e ∙ (omega arith))

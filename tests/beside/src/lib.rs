@@ -30,7 +30,7 @@ impl Origin {
     pub fn rng(self) -> Rng {
         let salt = self.test.bytes().fold(0u64, |sum, b| sum.wrapping_mul(257).wrapping_add(b as u64));
         let mut seeds = Rng::new(self.seed ^ salt);
-        Rng::new(seeds.next().wrapping_add(self.case.wrapping_mul(0xD134_2543_DE82_EF95)))
+        Rng::new(seeds.draw().wrapping_add(self.case.wrapping_mul(0xD134_2543_DE82_EF95)))
     }
 }
 

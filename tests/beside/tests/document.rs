@@ -359,6 +359,9 @@ fn each_clause_of_well_laid() {
             assert_eq!(with(changes).exact(call).0, 3, "{changes:?}, {call:?}");
         }
     }
+    // c above E where the next section's head would pass for a record.
+    let over = [2, 2, 3, 1, 0, 1, 1, 0, 2, 1, 0, 1, 1, 0, 1, 1, 0, 0, 0, 0];
+    assert_eq!(pair_of_words(&over, ORIGIN).exact(Line { number: 1 }).0, 3);
     // What no run makes and well laid allows.
     let good: [&[(usize, u32)]; 7] = [
         &[(6, 18), (3, 18)],          // a number of n × E

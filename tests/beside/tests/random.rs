@@ -1,7 +1,7 @@
 //! More than a million random calls: runs from fresh, well laid tables that no run makes, damaged bytes, wrong lengths
 //! and extreme numbers, each made beside the reference engine.
 use beside::{seed, Origin, Pair};
-use cases::{area_length, damage, messages, step_or_line, table_length, well_laid, Call, Rng};
+use cases::{area_length, damage, messages, remember, step_or_line, table_length, well_laid, Call, Rng};
 use std::fmt;
 
 const NAMES: [&str; 5] = ["fresh", "checkpoint", "send", "receipt", "line"];
@@ -85,29 +85,13 @@ impl Case<'_> {
     }
 
     /// Steps and lines on the table as it is, whose messages are known.
-    fn steps(&mut self, count: u32, mut waiting: Vec<Call>) {
+    fn steps(&mut self, count: u32, mut known: Vec<Call>) {
         for _ in 0..count {
-            let call = step_or_line(&mut self.rng, self.n, self.e, &waiting);
-            if self.call(call) != 0 {
-                continue;
-            }
-            match call {
-                Call::Send { p, q } => {
-                    let k = self.send_count(p);
-                    waiting.push(Call::Receipt { p: q, q: p, k });
-                }
-                Call::Receipt { .. } if !self.rng.one_in(4) => {
-                    let known = waiting.iter().position(|&other| other == call);
-                    known.map(|i| waiting.swap_remove(i));
-                }
-                _ => {}
+            let call = step_or_line(&mut self.rng, self.n, self.e, &known);
+            if self.call(call) == 0 {
+                remember(&mut self.rng, &mut known, call, self.pair.table());
             }
         }
-    }
-
-    fn send_count(&self, p: u32) -> u32 {
-        let at = 8 + 12 * p as usize * (self.e as usize + 1) + 8;
-        u32::from_be_bytes(self.pair.table()[at..at + 4].try_into().unwrap())
     }
 
     /// Each kind of call once, fresh last as it would repair the table.

@@ -1,7 +1,7 @@
 //! Document 01, "Lists of calls": two lists leave the same table exactly when each process has the same accepted calls,
 //! and the numbered lines after a list have no orphan.
 use beside::{seed, Origin, Pair};
-use cases::{area_length, records, step, Call, Rng};
+use cases::{area_length, records, remember, step, Call, Rng};
 
 /// How many lists each test draws.
 const LISTS: u64 = 4_000;
@@ -37,23 +37,15 @@ impl Run {
         self.call(call, call.area_length(self.accepted.len() as u32))
     }
 
-    /// A list of random steps. Messages wait in no order, and a received one may stay to be refused later.
+    /// A list of random steps, in which messages overtake each other and calls are refused.
     fn random(rng: &mut Rng, n: u32, e: u32, origin: Origin) -> Run {
         let mut run = Run::new(n, e, origin);
-        let mut waiting = Vec::new();
+        let mut known = Vec::new();
         for _ in 0..rng.below(4 * n * e + 2) {
-            let call = step(rng, n, e, &waiting);
+            let call = step(rng, n, e, &known);
             let area = area_length(rng, call.area_length(n));
-            if run.call(call, area) != 0 {
-                continue;
-            }
-            match call {
-                Call::Send { p, q } => {
-                    let sends = run.accepted[p as usize].iter().filter(|c| matches!(c, Call::Send { .. }));
-                    waiting.push(Call::Receipt { p: q, q: p, k: sends.count() as u32 });
-                }
-                Call::Receipt { .. } if !rng.one_in(4) => waiting.retain(|&other| other != call),
-                _ => {}
+            if run.call(call, area) == 0 {
+                remember(rng, &mut known, call, run.pair.table());
             }
         }
         run

@@ -8,7 +8,7 @@ impl Rng {
         Rng(seed)
     }
 
-    pub fn next(&mut self) -> u64 {
+    pub fn draw(&mut self) -> u64 {
         self.0 = self.0.wrapping_add(0x9E37_79B9_7F4A_7C15);
         let z = (self.0 ^ self.0 >> 30).wrapping_mul(0xBF58_476D_1CE4_E5B9);
         let z = (z ^ z >> 27).wrapping_mul(0x94D0_49BB_1331_11EB);
@@ -16,7 +16,7 @@ impl Rng {
     }
 
     pub fn below(&mut self, bound: u32) -> u32 {
-        (self.next() >> 32) as u32 % bound
+        (self.draw() >> 32) as u32 % bound
     }
 
     pub fn one_in(&mut self, times: u32) -> bool {
@@ -28,7 +28,7 @@ impl Rng {
     }
 
     pub fn bytes(&mut self, length: usize) -> Vec<u8> {
-        (0..length).map(|_| self.next() as u8).collect()
+        (0..length).map(|_| self.draw() as u8).collect()
     }
 
     /// A number at an edge of something, or anything.
@@ -38,7 +38,7 @@ impl Rng {
             0 => edge,
             1 => edge.wrapping_sub(1),
             2 => edge + 1,
-            _ => self.next() as u32,
+            _ => self.draw() as u32,
         }
     }
 
@@ -104,8 +104,26 @@ pub fn messages(table: &[u8]) -> Vec<Call> {
     receipts
 }
 
+/// Notes what an accepted call does to the messages known in a run: a send adds one, a received one mostly goes. Some
+/// stay, so that they are tried a second time.
+pub fn remember(rng: &mut Rng, known: &mut Vec<Call>, call: Call, table: &[u8]) {
+    match call {
+        Call::Send { p, q } => {
+            let e = to_words(&table[..8])[1] as usize;
+            let sends = 4 * (2 + p as usize * (3 + 3 * e) + 2);
+            known.push(Call::Receipt { p: q, q: p, k: to_words(&table[sends..sends + 4])[0] });
+        }
+        Call::Receipt { .. } if !rng.one_in(4) => {
+            if let Some(i) = known.iter().position(|&other| other == call) {
+                known.swap_remove(i);
+            }
+        }
+        _ => {}
+    }
+}
+
 /// A step. Many receipts are of a known message, picked in any order, so that messages overtake each other.
-pub fn step(rng: &mut Rng, n: u32, e: u32, messages: &[Call]) -> Call {
+pub fn step(rng: &mut Rng, n: u32, e: u32, known: &[Call]) -> Call {
     let p = rng.around(n, n, e);
     let q =
         if n == 1 || p >= n || rng.one_in(8) { rng.around(n, n, e) } else { (p + 1 + rng.below(n - 1)) % n };
@@ -113,18 +131,18 @@ pub fn step(rng: &mut Rng, n: u32, e: u32, messages: &[Call]) -> Call {
         0 | 1 => Call::Checkpoint { p },
         2..=4 => Call::Send { p, q },
         5 => Call::Receipt { p, q, k: rng.around(e.min(4) + 2, n, e) },
-        _ if messages.is_empty() => Call::Send { p, q },
-        _ => rng.pick(messages),
+        _ if known.is_empty() => Call::Send { p, q },
+        _ => rng.pick(known),
     }
 }
 
 /// Any call but fresh.
-pub fn step_or_line(rng: &mut Rng, n: u32, e: u32, messages: &[Call]) -> Call {
+pub fn step_or_line(rng: &mut Rng, n: u32, e: u32, known: &[Call]) -> Call {
     if rng.one_in(6) {
         let top = rng.pick(&[4, n * e + 2]);
         Call::Line { number: rng.around(top, n, e) }
     } else {
-        step(rng, n, e, messages)
+        step(rng, n, e, known)
     }
 }
 

@@ -1,0 +1,38 @@
+use Rattle.steps.proofs.Rows.{act-table, act-area, act-process, act-none}
+use Rattle.rules.proofs.Outcomes.{long}
+use native.Mathlib.Omega.{arith}
+use borrow.Author.Needs.{needs}
+use Rattle.steps.proofs.act_row.Statement.{statement}
+use Rattle.steps.proofs.act_row.Tie as tie
+use Rattle.steps.proofs.act_row.Reads as reads
+use Rattle.steps.proofs.act_row.Lts as lts
+use Rattle.layout.proofs.table_row.Reads as table-row-reads
+use Rattle.xdr.proofs.size.Reads as size-reads
+
+-- src/lib.rt:89:9
+table-row-requires : tie.Need-table-row-requires
+table-row-requires c κs = search needs
+
+-- src/lib.rt:91:9
+returns : tie.Need-returns
+returns c = let a = c .before .before .before .args in act-table (a .t .now) (a .len) (a .want) (a .p) (c .before .table-row .ensures) (c .if1 .taken)
+
+-- src/lib.rt:94:9
+returns-2 : tie.Need-returns-2
+returns-2 c = let a = c .before .before .before .before .args in act-area (a .t .now) (a .len) (a .want) (a .p) (c .before .before .table-row .ensures) (c .before .if1 .left) (c .if2 .taken)
+
+-- src/lib.rt:96:8
+size-requires : tie.Need-size-requires
+size-requires c κs = let l = long (c .before .before .before .before .args .t .now) (c .before .before .table-row .ensures) (c .before .if1 .left) in omega arith
+
+-- src/lib.rt:97:9
+returns-3 : tie.Need-returns-3
+returns-3 c = let a = c .before .before .before .before .before .before .args in act-process (a .t .now) (a .len) (a .want) (a .p) (c .before .before .before .before .table-row .ensures) (c .before .before .before .if1 .left) (c .before .before .if2 .left) (c .before .size .ensures .0) (c .if3 .taken)
+
+-- src/lib.rt:86:1
+returns-4 : tie.Need-returns-4
+returns-4 c = let a = c .before .before .before .before .before .before .args in act-none (a .t .now) (a .len) (a .want) (a .p) (c .before .before .before .before .table-row .ensures) (c .before .before .before .if1 .left) (c .before .before .if2 .left) (c .before .size .ensures .0) (c .if3 .left)
+
+pub act-row-spec : {M : Type 1} → statement M
+act-row-spec =
+    tie.close (tie.spec table-row-requires returns returns-2 size-requires returns-3 returns-4)

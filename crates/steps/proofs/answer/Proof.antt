@@ -1,0 +1,26 @@
+use Rattle.steps.proofs.Puts.{two-puts}
+use borrow.Author.Needs.{needs}
+use Rattle.steps.proofs.answer.Statement.{statement}
+use Rattle.steps.proofs.answer.Tie as tie
+use Rattle.steps.proofs.answer.Reads as reads
+use Rattle.steps.proofs.answer.Lts as lts
+use Rattle.xdr.proofs.put.Reads as put-reads
+
+-- src/lib.rt:237:5
+put-requires : tie.Need-put-requires
+put-requires c κs = search needs
+
+-- src/lib.rt:238:5
+put-requires-2 : tie.Need-put-requires-2
+put-requires-2 c κs = search needs
+
+-- src/lib.rt:233:1
+same-length : tie.Need-same-length
+same-length c = search needs
+
+-- src/lib.rt:233:1
+returns : tie.Need-returns
+returns c = let a = c .before .before .before .before .before .before .before .before .before .args in two-puts (a .area .now) (a .x) (a .y) (c .before .before .before .before .before .before .put .ensures) (c .before .before .put2 .ensures)
+
+pub answer-spec : {M : Type 1} → statement M
+answer-spec = tie.close (tie.spec put-requires put-requires-2 same-length returns)

@@ -1,0 +1,35 @@
+use Rattle.steps.proofs.Rows.{acts, pair-act, pair-other, pair-none}
+use native.Mathlib.Omega.{arith}
+use borrow.Author.Needs.{needs}
+use Rattle.steps.proofs.pair_row.Statement.{statement}
+use Rattle.steps.proofs.pair_row.Tie as tie
+use Rattle.steps.proofs.pair_row.Reads as reads
+use Rattle.steps.proofs.pair_row.Lts as lts
+use Rattle.steps.proofs.act_row.Reads as act-row-reads
+use Rattle.xdr.proofs.size.Reads as size-reads
+
+-- src/lib.rt:125:9
+act-row-requires : tie.Need-act-row-requires
+act-row-requires c κs = search needs
+
+-- src/lib.rt:127:9
+returns : tie.Need-returns
+returns c = let a = c .before .before .before .args in pair-act (a .t .now) (a .len) (a .p) (a .q) (c .before .act-row .ensures) (c .if1 .taken)
+
+-- src/lib.rt:129:9
+size-requires : tie.Need-size-requires
+size-requires c κs = 
+    let a = c .before .before .before .args in
+    let w = acts (a .t .now) (λ i. omega (arith, c .before .before .shared-slice-known .given i)) (a .len) 8 (a .p) (c .before .act-row .ensures) (c .if1 .left) in
+    omega (arith, w .table .is .whole)
+
+-- src/lib.rt:130:9
+returns-2 : tie.Need-returns-2
+returns-2 c = let a = c .before .before .before .before .before .args in pair-other (a .t .now) (a .len) (a .p) (a .q) (c .before .before .before .act-row .ensures) (c .before .before .if1 .left) (c .before .size .ensures .0) (c .if2 .taken)
+
+-- src/lib.rt:122:1
+returns-3 : tie.Need-returns-3
+returns-3 c = let a = c .before .before .before .before .before .args in pair-none (a .t .now) (a .len) (a .p) (a .q) (c .before .before .before .act-row .ensures) (c .before .before .if1 .left) (c .before .size .ensures .0) (c .if2 .left)
+
+pub pair-row-spec : {M : Type 1} → statement M
+pair-row-spec = tie.close (tie.spec act-row-requires returns size-requires returns-2 returns-3)

@@ -1,0 +1,75 @@
+use Rattle.steps.proofs.Rows.{pairs, send-stopped, send-full, send-none}
+use Rattle.rules.proofs.Outcomes.{head}
+use native.Mathlib.Omega.{arith}
+use mathlib.Core.Path.{_≡_, sym, ap, _∙_}
+use borrow.Author.Needs.{needs}
+use Rattle.steps.proofs.send_row.Statement.{statement}
+use Rattle.steps.proofs.send_row.Tie as tie
+use Rattle.steps.proofs.send_row.Reads as reads
+use Rattle.steps.proofs.send_row.Lts as lts
+use Rattle.layout.proofs.start.Reads as start-reads
+use Rattle.steps.proofs.pair_row.Reads as pair-row-reads
+use Rattle.xdr.proofs.size.Reads as size-reads
+
+-- src/lib.rt:138:9
+pair-row-requires : tie.Need-pair-row-requires
+pair-row-requires c κs = search needs
+
+-- src/lib.rt:140:9
+returns : tie.Need-returns
+returns c = let a = c .before .before .before .args in send-stopped (a .t .now) (a .p) (a .q) (a .len) (c .before .pair-row .ensures) (c .if1 .taken)
+
+-- src/lib.rt:142:9
+size-requires : tie.Need-size-requires
+size-requires c κs = 
+    let a = c .before .before .before .args in
+    let w = pairs (a .t .now) (λ i. omega (arith, c .before .before .shared-slice-known .given i)) (a .len) (a .p) (a .q) (c .before .pair-row .ensures) (c .if1 .left) in
+    omega (arith, w .acting .table .is .whole)
+
+-- src/lib.rt:143:25
+start-requires : tie.Need-start-requires
+start-requires c κs = 
+    let a = c .before .before .before .before .args in
+    let w = pairs (a .t .now) (λ i. omega (arith, c .before .before .before .shared-slice-known .given i)) (a .len) (a .p) (a .q) (c .before .before .pair-row .ensures) (c .before .if1 .left) in
+    omega (arith, w .acting .below, w .acting .table .range .processes, w .acting .table .range .records)
+
+-- src/lib.rt:143:12
+size-requires-2 : tie.Need-size-requires-2
+size-requires-2 c κs = 
+    let a = c .before .before .before .before .before .args in
+    let w = pairs (a .t .now) (λ i. omega (arith, c .before .before .before .before .shared-slice-known .given i)) (a .len) (a .p) (a .q) (c .before .before .before .pair-row .ensures) (c .before .before .if1 .left) in
+    let h = head (a .t .now) (w .acting .table) (a .p) (w .acting .below) (c .before .size .ensures .0) (c .start .ensures .0) in
+    omega (arith, h .inside)
+
+-- src/lib.rt:143:12
+add-if2 : tie.Need-add-if2
+add-if2 c = search needs
+
+-- src/lib.rt:144:9
+returns-2 : tie.Need-returns-2
+returns-2 c = 
+    let a = c .before .before .before .before .before .before .before .args in
+    let w = pairs (a .t .now) (λ i. omega (arith, c .before .before .before .before .before .before .shared-slice-known .given i)) (a .len) (a .p) (a .q) (c .before .before .before .before .before .pair-row .ensures) (c .before .before .before .before .if1 .left) in
+    let h = head (a .t .now) (w .acting .table) (a .p) (w .acting .below) (c .before .before .before .size .ensures .0) (c .before .before .start .ensures .0) in
+    send-full (a .t .now) (a .p) (a .q) (a .len) (c .before .before .before .before .before .pair-row .ensures) (c .before .before .before .before .if1 .left) (c .before .before .before .size .ensures .0) (c .before .size2 .ensures .0 ∙ h .count) (c .if2 .taken)
+
+-- src/lib.rt:135:1
+returns-3 : tie.Need-returns-3
+returns-3 c = 
+    let a = c .before .before .before .before .before .before .before .args in
+    let w = pairs (a .t .now) (λ i. omega (arith, c .before .before .before .before .before .before .shared-slice-known .given i)) (a .len) (a .p) (a .q) (c .before .before .before .before .before .pair-row .ensures) (c .before .before .before .before .if1 .left) in
+    let h = head (a .t .now) (w .acting .table) (a .p) (w .acting .below) (c .before .before .before .size .ensures .0) (c .before .before .start .ensures .0) in
+    send-none (a .t .now) (a .p) (a .q) (a .len) (c .before .before .before .before .before .pair-row .ensures) (c .before .before .before .before .if1 .left) (c .before .before .before .size .ensures .0) (c .before .size2 .ensures .0 ∙ h .count) (c .if2 .left)
+
+pub send-row-spec : {M : Type 1} → statement M
+send-row-spec =
+    tie.close
+    (tie.spec
+    pair-row-requires
+    returns
+    size-requires
+    start-requires
+    size-requires-2
+    add-if2
+    returns-2
+    returns-3)

@@ -1,0 +1,13 @@
+-- A table with records added in place, to the section that starts at word `at`.
+use mathlib.Core.List.{List, [], _∷_}
+use Prim.Native.Nat.{ℕ, _+_, _*_}
+use Rattle.xdr.specs.Words.{word, putWords}
+
+-- one record; x and s are the number and the count of sends after it
+abbrev pub withRecord : List ℕ → ℕ → ℕ → ℕ → ℕ → ℕ → ℕ → List ℕ
+withRecord t at x s kind a b = putWords (putWords t at ((word t at + 1) ∷ x ∷ s ∷ [])) (at + 3 + 3 * word t at) (kind ∷ a ∷ b ∷ [])
+
+-- a forced checkpoint with number m, then the receipt of (q, k)
+abbrev pub withForced : List ℕ → ℕ → ℕ → ℕ → ℕ → ℕ → List ℕ
+withForced t at s m q k =
+    putWords (putWords t at ((word t at + 2) ∷ m ∷ s ∷ [])) (at + 3 + 3 * word t at) (2 ∷ m ∷ 0 ∷ 4 ∷ q ∷ k ∷ [])

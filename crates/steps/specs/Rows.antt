@@ -1,0 +1,30 @@
+-- The rows of a step on a table, as far as the functions of this crate check them one after the other.
+use mathlib.Core.Bool.{not, cond, _||_}
+use mathlib.Core.List.{List, [], _∷_, _++_}
+use Prim.Native.Nat.{ℕ, _+_}
+use lib.Dec.{eqb, leb, ltb}
+use Rattle.xdr.specs.Words.{word}
+use Rattle.rules.specs.Records.{History, carried, hasSend, hasReceipt}
+use Rattle.rules.specs.Table.{decoded}
+use Rattle.rules.specs.Steps.{Call}
+use Rattle.rules.specs.Calls.{Row, row, first, tableRows, stepRows}
+
+-- the table, an area that wants so many bytes, the acting process
+abbrev pub actRows : List ℕ → ℕ → ℕ → ℕ → List Row
+actRows t len want p = tableRows t ++ row 4 (not (eqb len want)) ∷ row 5 (leb (word t 0) p) ∷ []
+
+-- and the other process
+abbrev pub pairRows : List ℕ → ℕ → ℕ → ℕ → List Row
+pairRows t len p q = actRows t len 8 p ++ row 6 (leb (word t 0) q || eqb q p) ∷ []
+
+-- the message k of q to p, and the records left: c of e records with number x are used, and h and g are the histories of p and q
+abbrev pub messageRows : ℕ → ℕ → ℕ → History → History → ℕ → ℕ → ℕ → List Row
+messageRows e c x h g p q k =
+    row 7 (not (hasSend g p k))
+    ∷ row 8 (hasReceipt h q k)
+    ∷ row 9 (ltb e (c + cond (ltb x (carried g k)) 2 1))
+    ∷ []
+
+-- the row that stops a step on the table t
+abbrev pub stepRow : List ℕ → ℕ → Call → ℕ → ℕ
+stepRow t p call len = first (tableRows t ++ stepRows (word t 0) (word t 1) (decoded t) p call len)

@@ -1,0 +1,60 @@
+#!/usr/bin/env bash
+# The tests from outside, to be run once `rt ci` has passed: they link the archive of the proved engine and run it beside the
+# reference engine. Writes under target/ only. The last line is 'N passed, M failed', and the status is 0 where M is 0.
+set -uo pipefail
+cd "$(dirname "$0")/.." || exit 2
+
+made=target/tests
+mkdir -p "$made" || exit 2
+export CARGO_TARGET_DIR="$PWD/$made"
+# The engine that is tested is the one that this repository makes.
+unset CKPT_LIB_DIR
+
+passed=0
+failed=0
+
+# check NAME COMMAND..: one test, passed when the command's status is 0
+check() {
+    local name=$1
+    shift
+    if "$@"; then
+        passed=$((passed + 1))
+        echo "check $name ... ok"
+    else
+        failed=$((failed + 1))
+        echo "check $name ... FAILED"
+    fi
+}
+
+# cargo_tests NAME WORDS..: `cargo test` with these words, each of its tests counted. A run that ends badly without a failed test,
+# as by a signal or a build error, counts as one; so does a run without any test.
+cargo_tests() {
+    local log="$made/$1.log" status p f
+    shift
+    cargo test --release --offline --locked --no-fail-fast "$@" 2>&1 | tee "$log"
+    status=$?
+    read -r p f < <(awk '/^test result:/ { p += $4; f += $6 } END { print p + 0, f + 0 }' "$log")
+    if [ "$f" -eq 0 ] && { [ "$status" -ne 0 ] || [ "$p" -eq 0 ]; }; then
+        f=1
+    fi
+    passed=$((passed + p))
+    failed=$((failed + f))
+}
+
+reference_unchanged() {
+    (cd tests && sha256sum --check --quiet reference.sha256)
+}
+
+vectors_current() {
+    cargo run --release --offline --locked --quiet --manifest-path tests/Cargo.toml -p vectors >"$made/Vectors.antt" &&
+        diff crates/vectors/specs/Vectors.antt "$made/Vectors.antt" | head -n 20
+}
+
+check "the engine's archive" rt staticlib engine
+check "the reference engine is as it was taken over" reference_unchanged
+check "the vectors are what the reference engine gives" vectors_current
+cargo_tests reference --manifest-path tests/reference/Cargo.toml
+cargo_tests beside --manifest-path tests/Cargo.toml -p beside -- --show-output
+
+echo "$passed passed, $failed failed"
+[ "$failed" -eq 0 ]
