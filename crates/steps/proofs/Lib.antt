@@ -1,2 +1,3 @@
 mod Puts
 mod Rows
+mod Done

@@ -276,7 +276,7 @@ const GOOD: [u32; 20] = [2, 2, 2, 1, 1, 1, 1, 0, 3, 1, 1, 1, 0, 0, 4, 0, 1, 0, 0
 fn badly_laid() -> Vec<Script> {
     let changes: [&[(usize, u32)]; 25] = [
         &[(2, 3)], // c above E
-        &[(2, MAX)],
+        &[(2, 1 << 8)],
         // c above E where the next section's head would pass for a record
         &[(2, 3), (4, 0), (8, 2), (10, 0), (12, 1), (14, 1), (15, 1), (16, 0)],
         &[(11, 2)],        // a used record of kind 0

@@ -1,0 +1,128 @@
+-- An accepted step's outcome, put together from what was read and stored.
+use mathlib.Core.Path.{_≡_, refl, sym, ap, _∙_}
+use mathlib.Core.Logic.{_≢_}
+use mathlib.Core.Bool.{Bool, true, false, cond}
+use mathlib.Core.List.{List, [], _∷_, _++_}
+use Prim.Native.Nat.{ℕ, suc, _+_, _*_, _≤_, _<_}
+use native.Mathlib.Nat.{add-comm}
+use native.Mathlib.Numerals.{add-one}
+use native.Mathlib.Omega.{arith}
+use lib.Dec.{ltb}
+use lib.ListN.{length}
+use borrow.Author.Tests.{ltb-true, ltb-false}
+use Rattle.xdr.specs.Words.{word, bytes, putWord, putWords}
+use Rattle.xdr.proofs.Laws.{Bytes, Small, all-put}
+use Rattle.rules.specs.Records.{Event, basic, forced, sent, received, History, State, history, number, sends, carried}
+use Rattle.rules.specs.Table.{recordWords, layout, start, decoded}
+use Rattle.rules.specs.Steps.{Call, checkpoint, send, receipt, forces, carries, added, stepped}
+use Rattle.rules.specs.Calls.{Outcome, outcome, first, tableRows, stepRows, areaLength, needed, answer, judged, stepOn}
+use Rattle.rules.proofs.Stores.{stored}
+use Rattle.rules.proofs.OneCall.{Whole, step-stores}
+use Rattle.rules.proofs.Steps.{Accepted}
+use Rattle.rules.proofs.Outcomes.{judged-stop, judged-done, Head, head, Passed, passed}
+use Rattle.steps.specs.Rows.{stepRow}
+use Rattle.steps.specs.Added.{withRecord, withForced}
+use Rattle.steps.proofs.Puts.{one-put}
+
+-- a refused step
+pub refused : (t a : List ℕ) (p : ℕ) (call : Call) {r : ℕ} → r ≡ stepRow t p call (length a) → r ≢ 0 → outcome r t a ≡ stepOn t a p call
+unfolding stepOn
+refused t a p call e ne =
+    judged-stop t a (layout (word t 0) (word t 1) (stepped (decoded t) p call)) (answer (decoded t) p call) e ne
+
+-- an accepted one
+accepted : (t a : List ℕ) → Bytes t → Bytes a → (p : ℕ) (call : Call) {r : ℕ} → r ≡ stepRow t p call (length a) → r ≡ 0
+    → (ws : List ℕ) → Small ws → areaLength call ≡ 4 * length ws → ws ≡ answer (decoded t) p call
+    → {u b : List ℕ} → u ≡ stored (word t 1) t p (history (decoded t) p) (added (history (decoded t) p) call (carries (decoded t) call)) → b ≡ putWords a 0 ws
+    → outcome 0 u b ≡ stepOn t a p call
+unfolding stepOn
+accepted t a bt ba p call e z ws small size same s o =
+    let P = passed t bt p call (length a) (sym e ∙ z) in
+    judged-done t a (layout (word t 0) (word t 1) (stepped (decoded t) p call)) (answer (decoded t) p call) (sym e ∙ z)
+    (s ∙ sym (step-stores t (P .table) p call (P .accepted)))
+    (o ∙ all-put a ws ba small (P .area ∙ size) ∙ ap bytes same)
+
+-- one record, stored
+one-stored : (t : List ℕ) (p : ℕ) (h : History) (ev : Event) {at x s kind a b : ℕ} → at ≡ start (word t 1) p → word t at ≡ length h
+    → x ≡ number (ev ∷ h) → s ≡ sends (ev ∷ h) → recordWords ev h ≡ kind ∷ a ∷ b ∷ [] → withRecord t at x s kind a b ≡ stored (word t 1) t p h (ev ∷ [])
+unfolding stored
+one-stored t p h ev i c x s r = rw (c, add-comm (length h) 1, i, x, s, r)
+
+-- the receipt of (q, k) that carries m, stored
+receipt-stored : (t : List ℕ) (p : ℕ) (h : History) (m q k : ℕ) {at : ℕ} → at ≡ start (word t 1) p → word t at ≡ length h
+    → word t (at + 1) ≡ number h → word t (at + 2) ≡ sends h
+    → cond (ltb (word t (at + 1)) m) (withForced t at (word t (at + 2)) m q k) (withRecord t at (word t (at + 1)) (word t (at + 2)) 4 q k)
+    ≡ stored (word t 1) t p h (received q k ∷ cond (ltb (number h) m) (forced m ∷ []) [])
+unfolding stored
+receipt-stored t p h m q k {at} i c x s = rw (x, s) (go (ltb (number h) m))
+  where
+    go : (b : Bool)
+        → cond b (withForced t at (sends h) m q k) (withRecord t at (number h) (sends h) 4 q k)
+        ≡ stored (word t 1) t p h (received q k ∷ cond b (forced m ∷ []) [])
+    go true = rw (c, add-comm (length h) 2, i)
+    go false = one-stored t p h (received q k) i c refl refl refl
+
+-- ---- what a step that meets no row finds in the table
+
+pub record Ready (t a : List ℕ) (p : ℕ) (call : Call) (E at : ℕ) : Type 0 where
+  pub own : Head t p E at
+  pub free : word t at + needed (history (decoded t) p) call (carries (decoded t) call) ≤ E
+  pub area : length a ≡ areaLength call
+
+module _ (t a : List ℕ) (bt : Bytes t) (p : ℕ) (call : Call) {r : ℕ} (e : r ≡ stepRow t p call (length a)) (z : r ≡ 0) where
+  pub clear : Passed t p call (length a)
+  clear = passed t bt p call (length a) (sym e ∙ z)
+
+  pub ready : {E at : ℕ} → E ≡ word t 1 → at ≡ start E p → Ready t a p call E at
+  ready i j =
+      let P = clear in
+      let H = head t (P .table) p (P .accepted .within) i j in
+      record { own = H; free = rw (H .count, i) (P .accepted .free); area = P .area }
+
+-- the room of a receipt that carries m
+pub receipt-room : (t a : List ℕ) (p q k E at m : ℕ) → Ready t a p (receipt q k) E at → m ≡ carried (history (decoded t) q) k
+    → 4 * (at + 3 + 3 * (word t at + cond (ltb (word t (at + 1)) m) 2 1)) ≤ length t
+receipt-room t a p q k E at m R i = rw (R .own .current, i) (go (cond (ltb (number (history (decoded t) p)) (carried (history (decoded t) q) k)) 2 1) (R .free) (R .own .inside))
+  where
+    go : (x : ℕ) → word t at + x ≤ E → 4 * (at + 3 + 3 * E) ≤ length t → 4 * (at + 3 + 3 * (word t at + x)) ≤ length t
+    go x f l = omega arith
+
+-- ---- the three calls
+
+module _ (t a : List ℕ) (bt : Bytes t) (ba : Bytes a) (p : ℕ) {E at x s : ℕ} (i : E ≡ word t 1) (j : at ≡ start E p)
+    (f : x ≡ word t (at + 1)) (g : s ≡ word t (at + 2)) where
+  at-start : at ≡ start (word t 1) p
+  at-start = rw (← i) j
+
+  pub checkpoint-done : {r : ℕ} {u b : List ℕ} → r ≡ stepRow t p checkpoint (length a) → r ≡ 0 → u ≡ withRecord t at (x + 1) s 1 (x + 1) 0 → b ≡ putWord a 0 (x + 1)
+      → outcome 0 u b ≡ stepOn t a p checkpoint
+  checkpoint-done e z v w =
+      let H = ready t a bt p checkpoint e z i j .own in
+      let h = history (decoded t) p in
+      let n : x + 1 ≡ suc (number h) = rw (f, H .current, add-one) refl in
+      accepted t a bt ba p checkpoint e z ((x + 1) ∷ []) (omega (arith, H .low)) refl (rw n)
+      (v ∙ one-stored t p h (basic (suc (number h))) at-start (H .count) n (g ∙ H .sent) (rw n)) (one-put a (x + 1) w)
+
+  pub send-done : (q : ℕ) {r : ℕ} {u b : List ℕ} → r ≡ stepRow t p (send q) (length a) → r ≡ 0 → u ≡ withRecord t at x (s + 1) 3 q (s + 1) → b ≡ putWords a 0 ((s + 1) ∷ x ∷ [])
+      → outcome 0 u b ≡ stepOn t a p (send q)
+  send-done q e z v w =
+      let H = ready t a bt p (send q) e z i j .own in
+      let h = history (decoded t) p in
+      let n : s + 1 ≡ suc (sends h) = rw (g, H .sent, add-one) refl in
+      accepted t a bt ba p (send q) e z ((s + 1) ∷ x ∷ []) (omega (arith, H .few), (omega (arith, H .low), tt)) refl (rw (n, f, H .current))
+      (v ∙ one-stored t p h (sent q) at-start (H .count) (f ∙ H .current) n (rw n)) w
+
+pub receipt-done : (t a : List ℕ) → Bytes t → Bytes a → (p q k : ℕ) {r E at m y : ℕ} {u b : List ℕ} → E ≡ word t 1 → at ≡ start E p
+    → r ≡ stepRow t p (receipt q k) (length a) → r ≡ 0 → m ≡ carried (history (decoded t) q) k → m < 4294967296
+    → y ≡ cond (ltb (word t (at + 1)) m) 1 0
+    → u ≡ cond (ltb (word t (at + 1)) m) (withForced t at (word t (at + 2)) m q k) (withRecord t at (word t (at + 1)) (word t (at + 2)) 4 q k)
+    → b ≡ putWords a 0 (m ∷ y ∷ []) → outcome 0 u b ≡ stepOn t a p (receipt q k)
+receipt-done t a bt ba p q k {E} {at} {m} {y} i j e z c fits n v w =
+    let H = ready t a bt p (receipt q k) e z i j .own in
+    let h = history (decoded t) p in
+    accepted t a bt ba p (receipt q k) e z (m ∷ y ∷ []) (fits, (small (ltb (word t (at + 1)) m) n, tt)) refl (rw (n, H .current, c))
+    (v ∙ receipt-stored t p h m q k (rw (← i) j) (H .count) (H .current) (H .sent) ∙ rw c) w
+  where
+    small : (x : Bool) → y ≡ cond x 1 0 → y < 4294967296
+    small true q = omega arith
+    small false q = omega arith
