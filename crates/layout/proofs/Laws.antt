@@ -1,18 +1,21 @@
--- Bounds of the table's dimensions, a record's test without branches, and the tests of a section and a table put together.
+-- Bounds of the table's dimensions, a record's test without branches, the tests of a section and a table put together, and a fresh
+-- table.
 use mathlib.Core.Path.{_≡_, refl, sym}
 use mathlib.Core.Logic.{_≢_}
-use mathlib.Core.List.{List}
+use mathlib.Core.List.{List, [], _∷_}
 use mathlib.Core.Bool.{Bool, true, false, not, cond, _&&_, _||_}
 use Prim.Native.Nat.{ℕ, suc, _+_, _-_, _*_, _≤_, _<_}
 use native.Mathlib.Nat.{mul-le-mul}
 use native.Mathlib.Numerals.{add-one}
 use lib.Dec.{eqb, leb, ltb}
-use lib.ListN.{length}
+use lib.ListN.{length, replicate}
 use borrow.Author.Tests.{eqb-true, le-leb, lt-leb, lt-ltb, le-ltb, eq-eqb, ne-eqb}
-use Rattle.xdr.specs.Words.{word}
+use Rattle.xdr.specs.Words.{word, putWords}
 use Rattle.rules.specs.Records.{number, sends}
 use Rattle.rules.specs.Table.{inRange, size, start, recordsAt, recordOk, recordsOk, zerosAt, sectionOk, sectionsOk, wellLaid}
-use Rattle.rules.specs.Calls.{first, tableRows}
+use Rattle.rules.specs.Calls.{outcome, first, tableRows, freshOn}
+use Rattle.rules.proofs.OneCall.{in-range}
+use Rattle.rules.proofs.Fresh.{fresh-layout}
 use Rattle.rules.proofs.Histories.{Test, passes, fails, test}
 
 pub product : (n e : ℕ) → n ≤ 16 → e ≤ 1024 → n * e ≤ 16384
@@ -82,3 +85,18 @@ module _ (t : List ℕ) where
     pub row-none : inRange n e ≡ true → length t ≡ size n e → sectionsOk n e (word t) n ≡ true → 0 ≡ first (tableRows t)
     unfolding wellLaid
     row-none r z o = rw (le-ltb (length t) 8 l, ← a, ← b, r, eq-eqb (length t) (size n e) z, o)
+
+-- ---- a fresh table
+
+module _ (t : List ℕ) (n e : ℕ) where
+  pub fresh-range : inRange n e ≡ false → outcome 1 t [] ≡ freshOn t n e
+  unfolding freshOn
+  fresh-range r = rw r
+
+  pub fresh-size : inRange n e ≡ true → length t ≢ size n e → outcome 2 t [] ≡ freshOn t n e
+  unfolding freshOn
+  fresh-size r z = rw (r, ne-eqb (length t) (size n e) z)
+
+  pub fresh-done : inRange n e ≡ true → length t ≡ size n e → {u v : List ℕ} → u ≡ replicate (length t) 0 → v ≡ putWords u 0 (n ∷ e ∷ []) → outcome 0 v [] ≡ freshOn t n e
+  unfolding freshOn
+  fresh-done r z c p = rw (r, eq-eqb (length t) (size n e) z, p, c, z, fresh-layout n e (in-range n e r))

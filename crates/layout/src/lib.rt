@@ -3,11 +3,12 @@ ghost use mathlib.Core.Path.{_≡_};
 ghost use mathlib.Core.Bool.{cond, _&&_, _||_};
 ghost use Prim.Native.Nat.{_+_, _*_, _≤_, _<_};
 ghost use lib.Dec.{eqb};
-ghost use lib.ListN.{length};
+ghost use lib.ListN.{length, replicate};
+ghost use mathlib.Core.List.{[]};
 ghost use Rattle.xdr.specs.Words.{word};
 ghost use Rattle.rules.specs.Records.{number, sends};
 ghost use Rattle.rules.specs.Table.{inRange, size, start as startOf, recordsAt, recordOk, recordsOk, zerosAt, sectionOk, sectionsOk};
-ghost use Rattle.rules.specs.Calls.{first, tableRows};
+ghost use Rattle.rules.specs.Calls.{outcome, first, tableRows, freshOn};
 
 // The word at which section p starts.
 pub fn start(e: usize, p: usize) -> usize
@@ -159,5 +160,32 @@ pub fn table_row(t: &[u8]) -> u32
     if !sections_ok(t, n, e) {
         return 3;
     }
+    0
+}
+
+// Makes every byte of t 0.
+fn clear(t: &mut [u8])
+    ensures { λ _. ⌜ now (t .exit) ≡ replicate (length (now (t .entry))) 0 ⌝ }
+{
+    let mut i = 0;
+    while i < t.len() {
+        t[i] = 0;
+        i += 1;
+    }
+}
+
+// Makes t the fresh table of n and e.
+pub fn fresh(t: &mut [u8], n: u32, e: u32) -> u32
+    ensures { λ r. ⌜ outcome r (now (t .exit)) [] ≡ freshOn (now (t .entry)) n e ⌝ }
+{
+    if !in_range(n as usize, e as usize) {
+        return 1;
+    }
+    if t.len() != table_size(n as usize, e as usize) {
+        return 2;
+    }
+    clear(t);
+    xdr::put(t, 0, n);
+    xdr::put(t, 1, e);
     0
 }

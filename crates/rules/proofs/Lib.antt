@@ -13,3 +13,4 @@ pub mod Demand3
 pub mod Failure
 pub mod Scans
 pub mod Outcomes
+pub mod Fresh

@@ -79,7 +79,7 @@ numbered-cons N e h = rw (line-length N (e ∷ h), line-length N h) (go (reached
 pub numbered-le : (N : ℕ) (h : History) → numbered N h ≤ length h
 numbered-le N h = subst (λ (x : ℕ). x ≤ length h) (sym (line-length N h)) (older-length (line-older N h))
 
-position : (N : ℕ) (s : State) (p : ℕ) → getD (numberedLine N s) p 0 ≡ numbered N (history s p)
+pub position : (N : ℕ) (s : State) (p : ℕ) → getD (numberedLine N s) p 0 ≡ numbered N (history s p)
 position N s p = ap (getD (numberedLine N s) p) (sym (go (leb N 0))) ∙ List·getD-map (numbered N) s p []
   where
     go : (b : Bool) → orCount (cond b (some 0) none) 0 ≡ 0

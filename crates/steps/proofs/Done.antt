@@ -11,7 +11,7 @@ use lib.Dec.{ltb}
 use lib.ListN.{length}
 use borrow.Author.Tests.{ltb-true, ltb-false}
 use Rattle.xdr.specs.Words.{word, bytes, putWord, putWords}
-use Rattle.xdr.proofs.Laws.{Bytes, Small, all-put}
+use Rattle.xdr.proofs.Laws.{Bytes, Small, one-put, all-put}
 use Rattle.rules.specs.Records.{Event, basic, forced, sent, received, History, State, history, number, sends, carried}
 use Rattle.rules.specs.Table.{recordWords, layout, start, decoded}
 use Rattle.rules.specs.Steps.{Call, checkpoint, send, receipt, forces, carries, added, stepped}
@@ -22,7 +22,6 @@ use Rattle.rules.proofs.Steps.{Accepted}
 use Rattle.rules.proofs.Outcomes.{judged-stop, judged-done, Head, head, Passed, passed}
 use Rattle.steps.specs.Rows.{stepRow}
 use Rattle.steps.specs.Added.{withRecord, withForced}
-use Rattle.steps.proofs.Puts.{one-put}
 
 -- a refused step
 pub refused : (t a : List ℕ) (p : ℕ) (call : Call) {r : ℕ} → r ≡ stepRow t p call (length a) → r ≢ 0 → outcome r t a ≡ stepOn t a p call

@@ -6,17 +6,9 @@ use Prim.Native.Nat.{ℕ, _+_, _*_, _≤_, _<_}
 use native.Mathlib.Omega.{arith}
 use lib.Dec.{ltb}
 use borrow.Author.Tests.{lt-ltb, le-ltb}
-use Rattle.xdr.specs.Words.{word, putWord, putWords}
+use Rattle.xdr.specs.Words.{word, putWords}
 use Rattle.xdr.proofs.Laws.{put-append}
 use Rattle.steps.specs.Added.{withRecord, withForced}
-
-pub two-puts : (t : List ℕ) (x y : ℕ) {t₁ t₂ : List ℕ} → t₁ ≡ putWord t 0 x → t₂ ≡ putWord t₁ 1 y → t₂ ≡ putWords t 0 (x ∷ y ∷ [])
-unfolding putWords
-two-puts t x y a b = rw (b, a)
-
-pub one-put : (t : List ℕ) (x : ℕ) {t₁ : List ℕ} → t₁ ≡ putWord t 0 x → t₁ ≡ putWords t 0 (x ∷ [])
-unfolding putWords
-one-put t x a = a
 
 module _ (t : List ℕ) (at s : ℕ) {c : ℕ} {t₁ : List ℕ} (r : c ≡ word t at) where
   pub record-put : (x kind a b : ℕ) {t₂ : List ℕ} → t₁ ≡ putWords t at ((c + 1) ∷ x ∷ s ∷ []) → t₂ ≡ putWords t₁ (at + 3 + 3 * c) (kind ∷ a ∷ b ∷ [])

@@ -198,6 +198,14 @@ all-at t i (v ∷ vs) s le (suc j) lt =
     ap (word (putWords (putWord t i v) (suc i) vs)) (let e : i + suc j ≡ suc i + j = omega arith in e)
     ∙ all-at (putWord t i v) (suc i) vs (s .1) (let l = put-length t i v in omega arith) j (le-of-suc-le-suc lt)
 
+pub one-put : (t : List ℕ) (x : ℕ) {t₁ : List ℕ} → t₁ ≡ putWord t 0 x → t₁ ≡ putWords t 0 (x ∷ [])
+unfolding putWords
+one-put t x a = a
+
+pub two-puts : (t : List ℕ) (x y : ℕ) {t₁ t₂ : List ℕ} → t₁ ≡ putWord t 0 x → t₂ ≡ putWord t₁ 1 y → t₂ ≡ putWords t 0 (x ∷ y ∷ [])
+unfolding putWords
+two-puts t x y a b = rw (b, a)
+
 pub three-puts : (t : List ℕ) (i x y z : ℕ) {t₁ t₂ t₃ : List ℕ} → t₁ ≡ putWord t i x → t₂ ≡ putWord t₁ (i + 1) y → t₃ ≡ putWord t₂ (i + 2) z
     → t₃ ≡ putWords t i (x ∷ y ∷ z ∷ [])
 unfolding putWords

@@ -1,4 +1,4 @@
-use Rattle.steps.proofs.Puts.{two-puts}
+use Rattle.xdr.proofs.Laws.{two-puts}
 use borrow.Author.Needs.{needs}
 use Rattle.steps.proofs.answer.Statement.{statement}
 use Rattle.steps.proofs.answer.Tie as tie

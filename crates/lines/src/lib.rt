@@ -1,0 +1,77 @@
+// The numbered line (document 01, "Lines").
+ghost use mathlib.Core.Path.{_≡_};
+ghost use mathlib.Core.Bool.{cond, not, _&&_, _||_};
+ghost use Prim.Native.Nat.{ℕ, _+_, _*_, _≤_, _<_};
+ghost use lib.Dec.{eqb, leb};
+ghost use lib.ListN.{length};
+ghost use Rattle.xdr.specs.Words.{word, putWords};
+ghost use Rattle.rules.specs.Table.{start, recordsAt};
+ghost use Rattle.rules.specs.Lines.{numbered};
+ghost use Rattle.rules.specs.Calls.{outcome, first, lineOn};
+ghost use Rattle.lines.specs.Positions.{lineRows, positions};
+
+// The position of the first checkpoint with number m or more among the first c records from word `at` on, else c. A checkpoint that
+// is reached holds the position, whatever comes after it.
+fn position(t: &[u8], at: usize, c: usize, m: usize) -> usize
+    requires { ⌜ (c ≤ 1024) × (4 * (at + 3 * c) ≤ length (now t)) ⌝ }
+    ensures { λ r. ⌜ (r ≡ numbered m (recordsAt (word (now (t .entry))) at c)) × (r ≤ c) ⌝ }
+{
+    let mut reached = m <= 0;
+    let mut r: usize = 0;
+    let mut i: usize = 0;
+    while i < c {
+        let w = at + 3 * i;
+        let kind = xdr::size(t, w);
+        r = layout::pick(reached, r, i + 1);
+        reached = reached | !((kind == 4) | (kind == 3)) & (m <= xdr::size(t, w + 1));
+        i += 1;
+    }
+    r
+}
+
+// The position of process p.
+fn position_of(t: &[u8], e: usize, p: usize, m: usize) -> u32
+    requires { ⌜ (e ≤ 1024) × (p < 16) × (4 * start e (p + 1) ≤ length (now t)) × (word (now t) (start e p) ≤ e) ⌝ }
+    ensures { λ r. ⌜ r ≡ numbered m (recordsAt (word (now (t .entry))) (start e p + 3) (word (now (t .entry)) (start e p))) ⌝ }
+{
+    let at = layout::start(e, p);
+    position(t, at + 3, xdr::size(t, at), m) as u32
+}
+
+// Writes the positions of all n processes.
+fn fill(t: &[u8], area: &mut [u8], n: usize, e: usize, m: usize)
+    requires { ⌜ (n ≤ 16) × (e ≤ 1024) × (4 * start e n ≤ length (now t)) × (length (now area) ≡ 4 * n) × ((p : ℕ) → p < n → word (now t) (start e p) ≤ e) ⌝ }
+    ensures { λ _. ⌜ now (area .exit) ≡ putWords (now (area .entry)) 0 (positions (word (now (t .entry))) e m n) ⌝ }
+{
+    let mut p: usize = 0;
+    while p < n {
+        xdr::put(area, p, position_of(t, e, p, m));
+        p += 1;
+    }
+}
+
+fn line_row(t: &[u8], len: usize) -> u32
+    ensures { λ r. ⌜ r ≡ first (lineRows (now (t .entry)) len) ⌝ }
+{
+    let row = layout::table_row(t);
+    if row != 0 {
+        return row;
+    }
+    if len != 4 * xdr::size(t, 0) {
+        return 4;
+    }
+    0
+}
+
+pub fn line(table: &[u8], area: &mut [u8], number: u32) -> u32
+    ensures { λ r. ⌜ outcome r (now (table .entry)) (now (area .exit)) ≡ lineOn (now (table .entry)) (now (area .entry)) number ⌝ }
+{
+    let row = line_row(table, area.len());
+    if row != 0 {
+        return row;
+    }
+    let n = xdr::size(table, 0);
+    let e = xdr::size(table, 1);
+    fill(table, area, n, e, number as usize);
+    0
+}
