@@ -90,10 +90,11 @@ fn act_row(t: &[u8], len: usize, want: usize, p: usize) -> u32
     if row != 0 {
         return row;
     }
+    let n = xdr::size(t, 0);
     if len != want {
         return 4;
     }
-    if xdr::size(t, 0) <= p {
+    if n <= p {
         return 5;
     }
     0

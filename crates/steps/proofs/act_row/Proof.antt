@@ -17,22 +17,22 @@ table-row-requires c κs = search needs
 returns : tie.Need-returns
 returns c = let a = c .before .before .before .args in act-table (a .t .now) (a .len) (a .want) (a .p) (c .before .table-row .ensures) (c .if1 .taken)
 
--- src/lib.rt:94:9
-returns-2 : tie.Need-returns-2
-returns-2 c = let a = c .before .before .before .before .args in act-area (a .t .now) (a .len) (a .want) (a .p) (c .before .before .table-row .ensures) (c .before .if1 .left) (c .if2 .taken)
-
--- src/lib.rt:96:8
+-- src/lib.rt:93:9
 size-requires : tie.Need-size-requires
-size-requires c κs = let l = long (c .before .before .before .before .args .t .now) (c .before .before .table-row .ensures) (c .before .if1 .left) in omega arith
+size-requires c κs = let l = long (c .before .before .before .args .t .now) (c .before .table-row .ensures) (c .if1 .left) in omega arith
 
--- src/lib.rt:97:9
+-- src/lib.rt:95:9
+returns-2 : tie.Need-returns-2
+returns-2 c = let a = c .before .before .before .before .before .args in act-area (a .t .now) (a .len) (a .want) (a .p) (c .before .before .before .table-row .ensures) (c .before .before .if1 .left) (c .if2 .taken)
+
+-- src/lib.rt:98:9
 returns-3 : tie.Need-returns-3
-returns-3 c = let a = c .before .before .before .before .before .before .args in act-process (a .t .now) (a .len) (a .want) (a .p) (c .before .before .before .before .table-row .ensures) (c .before .before .before .if1 .left) (c .before .before .if2 .left) (c .before .size .ensures .0) (c .if3 .taken)
+returns-3 c = let a = c .before .before .before .before .before .before .args in act-process (a .t .now) (a .len) (a .want) (a .p) (c .before .before .before .before .table-row .ensures) (c .before .before .before .if1 .left) (c .before .if2 .left) (c .before .before .size .ensures .0) (c .if3 .taken)
 
 -- src/lib.rt:86:1
 returns-4 : tie.Need-returns-4
-returns-4 c = let a = c .before .before .before .before .before .before .args in act-none (a .t .now) (a .len) (a .want) (a .p) (c .before .before .before .before .table-row .ensures) (c .before .before .before .if1 .left) (c .before .before .if2 .left) (c .before .size .ensures .0) (c .if3 .left)
+returns-4 c = let a = c .before .before .before .before .before .before .args in act-none (a .t .now) (a .len) (a .want) (a .p) (c .before .before .before .before .table-row .ensures) (c .before .before .before .if1 .left) (c .before .if2 .left) (c .before .before .size .ensures .0) (c .if3 .left)
 
 pub act-row-spec : {M : Type 1} → statement M
 act-row-spec =
-    tie.close (tie.spec table-row-requires returns returns-2 size-requires returns-3 returns-4)
+    tie.close (tie.spec table-row-requires returns size-requires returns-2 returns-3 returns-4)
