@@ -3,7 +3,7 @@
 use mathlib.Core.Path.{_≡_, refl, sym}
 use mathlib.Core.Logic.{_≢_}
 use mathlib.Core.List.{List, [], _∷_}
-use mathlib.Core.Bool.{Bool, true, false, not, cond, _&&_, _||_}
+use mathlib.Core.Bool.{Bool, true, false, not, _&&_, _||_}
 use Prim.Native.Nat.{ℕ, suc, _+_, _-_, _*_, _≤_, _<_}
 use native.Mathlib.Nat.{mul-le-mul}
 use native.Mathlib.Numerals.{add-one}
@@ -14,9 +14,9 @@ use Rattle.xdr.specs.Words.{word, putWords}
 use Rattle.rules.specs.Records.{number, sends}
 use Rattle.rules.specs.Table.{inRange, size, start, recordsAt, recordOk, recordsOk, zerosAt, sectionOk, sectionsOk, wellLaid}
 use Rattle.rules.specs.Calls.{outcome, first, tableRows, freshOn}
-use Rattle.rules.proofs.OneCall.{in-range}
-use Rattle.rules.proofs.Fresh.{fresh-layout}
-use Rattle.rules.proofs.Histories.{Test, passes, fails, test}
+use Rattle.theorems.proofs.OneCall.{in-range}
+use Rattle.theorems.proofs.Fresh.{fresh-layout}
+use Rattle.theorems.proofs.Histories.{Test, passes, fails, test}
 
 pub product : (n e : ℕ) → n ≤ 16 → e ≤ 1024 → n * e ≤ 16384
 product n e a b = mul-le-mul {n₁ = n} {m₁ = e} {n₂ = 16} {m₂ = 1024} a b

@@ -33,7 +33,16 @@ struct Seen {
 }
 
 // Whether a record with these words may follow k sends in process p's section, where numbers are at most `most`.
-fn record_ok(n: usize, e: usize, most: usize, p: usize, k: usize, kind: usize, a: usize, b: usize) -> bool
+fn record_ok(
+    n: usize,
+    e: usize,
+    most: usize,
+    p: usize,
+    k: usize,
+    kind: usize,
+    a: usize,
+    b: usize,
+) -> bool
     requires { ⌜ (most ≡ n * e) × (k ≤ 1024) ⌝ }
     ensures { λ r. ⌜ r ≡ recordOk n e p k kind a b ⌝ }
 {
@@ -108,7 +117,8 @@ fn section_ok(t: &[u8], n: usize, e: usize, p: usize) -> bool
         return false;
     }
     let s = used(t, n, e, p, at + 3, c);
-    s.ok & (xdr::size(t, at + 1) == s.number)
+    s.ok
+        & (xdr::size(t, at + 1) == s.number)
         & (xdr::size(t, at + 2) == s.sends)
         & zeros(t, at + 3 + 3 * c, 3 * (e - c))
 }

@@ -1,55 +1,30 @@
--- One record more in the scan for a position, one process more in the line, and the line's outcome from its parts.
-use mathlib.Core.Path.{_≡_, refl, sym, ap, _∙_, subst}
+-- The rows of a numbered line, one process more in it, and its outcome from its parts.
+use mathlib.Core.Path.{_≡_, refl, sym, ap, _∙_}
 use mathlib.Core.Logic.{_≢_}
-use mathlib.Core.Bool.{Bool, true, false, not, cond, _&&_, _||_}
-use mathlib.Core.List.{List, [], _∷_, _++_, map}
+use mathlib.Core.Bool.{not}
+use mathlib.Core.List.{List, [], _∷_, _++_}
 use Prim.Native.Nat.{ℕ, zero, suc, _+_, _*_, _≤_, _<_}
-use native.Mathlib.Nat.{le-trans, not-suc-le-zero, zero-add}
+use native.Mathlib.Nat.{le-trans, not-suc-le-zero}
 use native.Mathlib.Numerals.{add-one}
 use native.Mathlib.Omega.{arith}
-use lib.Dec.{eqb, leb}
+use lib.Dec.{eqb}
 use lib.ListN.{length, getD, length-append, List·getD-append, length-map}
 use lib.Seq.{ext-getD, getD-append-add}
 use native.Mathlib.Decide.{decLt}
 use borrow.Author.Tests.{eqb-true, not-false, eq-eqb, ne-eqb}
 use Rattle.xdr.specs.Words.{word, bytes, putWord, putWords}
 use Rattle.xdr.proofs.Laws.{Bytes, Small, all-put, put-append}
-use Rattle.rules.specs.Records.{History, history}
-use Rattle.rules.specs.Table.{start, eventOf, recordsAt, sectionAt, decoded}
-use Rattle.rules.specs.Lines.{atLeast, numbered, numberedLine}
-use Rattle.rules.specs.Calls.{outcome, Row, row, first, tableRows, judged, lineOn}
-use Rattle.rules.proofs.Steps.{none-met}
-use Rattle.rules.proofs.WellLaid.{records-length, decoded-at, decoded-length}
-use Rattle.rules.proofs.Laid.{small-append}
-use Rattle.rules.proofs.OneCall.{Whole, whole, split-zero}
-use Rattle.rules.proofs.Lines.{reached, numbered-cons, numbered-le, position}
-use Rattle.rules.proofs.Scans.{least-event}
-use Rattle.rules.proofs.Outcomes.{judged-stop, judged-done, stopped, going, head}
+use Rattle.rules.specs.Table.{start, sectionAt, decoded}
+use Rattle.rules.specs.Lines.{numbered, numberedLine}
+use Rattle.rules.specs.Calls.{outcome, row, first, tableRows, lineOn}
+use Rattle.theorems.proofs.Steps.{none-met}
+use Rattle.theorems.proofs.WellLaid.{decoded-at, decoded-length}
+use Rattle.theorems.proofs.Laid.{small-append}
+use Rattle.theorems.proofs.OneCall.{Whole, whole, split-zero}
+use Rattle.theorems.proofs.Lines.{position}
+use Rattle.scans.proofs.Laws.{position-le}
+use Rattle.theorems.proofs.Outcomes.{judged-stop, judged-done, stopped, going, head}
 use Rattle.lines.specs.Positions.{lineRows, positions}
-
--- ---- one record more
-
-module _ (N : ℕ) (w : ℕ → ℕ) (at i : ℕ) where
-  pub numbered-next : numbered N (recordsAt w at (i + 1)) ≡ cond (reached N (recordsAt w at i)) (numbered N (recordsAt w at i)) (i + 1)
-  numbered-next =
-      rw (add-one)
-      (numbered-cons N (eventOf (w (at + 3 * i)) (w (at + 3 * i + 1)) (w (at + 3 * i + 2))) (recordsAt w at i) ∙ rw (records-length w at i))
-
-  pub reached-next : reached N (recordsAt w at (i + 1))
-      ≡ (reached N (recordsAt w at i) || (not (eqb (w (at + 3 * i)) 4 || eqb (w (at + 3 * i)) 3) && leb N (w (at + 3 * i + 1))))
-  reached-next = rw (add-one, least-event) (swap (not (eqb (w (at + 3 * i)) 4 || eqb (w (at + 3 * i)) 3) && leb N (w (at + 3 * i + 1))) (reached N (recordsAt w at i)))
-    where
-      swap : (x y : Bool) → (x || y) ≡ (y || x)
-      swap true true = refl
-      swap true false = refl
-      swap false true = refl
-      swap false false = refl
-
-pub numbered-none : (N : ℕ) → 0 ≡ numbered N []
-numbered-none N = let l = numbered-le N [] in omega arith
-
-pub position-le : (N : ℕ) (w : ℕ → ℕ) (at c : ℕ) → numbered N (recordsAt w at c) ≤ c
-position-le N w at c = subst (λ (x : ℕ). numbered N (recordsAt w at c) ≤ x) (records-length w at c) (numbered-le N (recordsAt w at c))
 
 -- ---- rows
 

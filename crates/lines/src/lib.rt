@@ -1,8 +1,6 @@
 // The numbered line (document 01, "Lines").
 ghost use mathlib.Core.Path.{_≡_};
-ghost use mathlib.Core.Bool.{cond, not, _&&_, _||_};
 ghost use Prim.Native.Nat.{ℕ, _+_, _*_, _≤_, _<_};
-ghost use lib.Dec.{eqb, leb};
 ghost use lib.ListN.{length};
 ghost use Rattle.xdr.specs.Words.{word, putWords};
 ghost use Rattle.rules.specs.Table.{start, recordsAt};
@@ -10,32 +8,13 @@ ghost use Rattle.rules.specs.Lines.{numbered};
 ghost use Rattle.rules.specs.Calls.{outcome, first, lineOn};
 ghost use Rattle.lines.specs.Positions.{lineRows, positions};
 
-// The position of the first checkpoint with number m or more among the first c records from word `at` on, else c. A checkpoint that
-// is reached holds the position, whatever comes after it.
-fn position(t: &[u8], at: usize, c: usize, m: usize) -> usize
-    requires { ⌜ (c ≤ 1024) × (4 * (at + 3 * c) ≤ length (now t)) ⌝ }
-    ensures { λ r. ⌜ (r ≡ numbered m (recordsAt (word (now (t .entry))) at c)) × (r ≤ c) ⌝ }
-{
-    let mut reached = m <= 0;
-    let mut r: usize = 0;
-    let mut i: usize = 0;
-    while i < c {
-        let w = at + 3 * i;
-        let kind = xdr::size(t, w);
-        r = layout::pick(reached, r, i + 1);
-        reached = reached | !((kind == 4) | (kind == 3)) & (m <= xdr::size(t, w + 1));
-        i += 1;
-    }
-    r
-}
-
 // The position of process p.
 fn position_of(t: &[u8], e: usize, p: usize, m: usize) -> u32
     requires { ⌜ (e ≤ 1024) × (p < 16) × (4 * start e (p + 1) ≤ length (now t)) × (word (now t) (start e p) ≤ e) ⌝ }
     ensures { λ r. ⌜ r ≡ numbered m (recordsAt (word (now (t .entry))) (start e p + 3) (word (now (t .entry)) (start e p))) ⌝ }
 {
     let at = layout::start(e, p);
-    position(t, at + 3, xdr::size(t, at), m) as u32
+    scans::position(t, at + 3, xdr::size(t, at), m) as u32
 }
 
 // Writes the positions of all n processes.

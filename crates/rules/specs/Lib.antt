@@ -4,5 +4,4 @@ pub mod Steps
 pub mod Lines
 pub mod Calls
 pub mod Lists
-pub mod TwoLists
 pub mod Worked

@@ -1,12 +1,11 @@
 -- Document 01, "Lines": cuts, orphans, numbered lines and failure lines.
 use mathlib.Core.Path.{_≡_}
 use mathlib.Core.Bool.{Bool, true, false, not, cond, _||_, _&&_}
-use mathlib.Core.List.{List, [], _∷_, _++_, map, List·Memᴰ}
+use mathlib.Core.List.{List, [], _∷_, map, List·Memᴰ}
 use mathlib.Core.Option.{Option, none, some}
 use Prim.Native.Nat.{ℕ, zero, suc, _+_, _^_, _/_, _%_, _≤_, _<_}
 use lib.Dec.{leb, ltb, eqb}
 use lib.ListN.{length, getD}
-use lib.Count.{ones}
 use Rattle.rules.specs.Records.{Event, basic, forced, sent, received, History, State, history, hasSend}
 
 -- ---- cuts

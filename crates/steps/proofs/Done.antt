@@ -2,26 +2,24 @@
 use mathlib.Core.Path.{_≡_, refl, sym, ap, _∙_}
 use mathlib.Core.Logic.{_≢_}
 use mathlib.Core.Bool.{Bool, true, false, cond}
-use mathlib.Core.List.{List, [], _∷_, _++_}
+use mathlib.Core.List.{List, [], _∷_}
 use Prim.Native.Nat.{ℕ, suc, _+_, _*_, _≤_, _<_}
 use native.Mathlib.Nat.{add-comm}
 use native.Mathlib.Numerals.{add-one}
 use native.Mathlib.Omega.{arith}
 use lib.Dec.{ltb}
 use lib.ListN.{length}
-use borrow.Author.Tests.{ltb-true, ltb-false}
 use Rattle.xdr.specs.Words.{word, bytes, putWord, putWords}
 use Rattle.xdr.proofs.Laws.{Bytes, Small, one-put, all-put}
-use Rattle.rules.specs.Records.{Event, basic, forced, sent, received, History, State, history, number, sends, carried}
+use Rattle.rules.specs.Records.{Event, basic, forced, sent, received, History, history, number, sends, carried}
 use Rattle.rules.specs.Table.{recordWords, layout, start, decoded}
-use Rattle.rules.specs.Steps.{Call, checkpoint, send, receipt, forces, carries, added, stepped}
-use Rattle.rules.specs.Calls.{Outcome, outcome, first, tableRows, stepRows, areaLength, needed, answer, judged, stepOn}
-use Rattle.rules.proofs.Stores.{stored}
-use Rattle.rules.proofs.OneCall.{Whole, step-stores}
-use Rattle.rules.proofs.Steps.{Accepted}
-use Rattle.rules.proofs.Outcomes.{judged-stop, judged-done, Head, head, Passed, passed}
-use Rattle.steps.specs.Rows.{stepRow}
-use Rattle.steps.specs.Added.{withRecord, withForced}
+use Rattle.rules.specs.Steps.{Call, checkpoint, send, receipt, carries, added, stepped}
+use Rattle.rules.specs.Calls.{outcome, areaLength, needed, answer, stepOn}
+use Rattle.theorems.proofs.Stores.{stored}
+use Rattle.theorems.proofs.OneCall.{step-stores}
+use Rattle.theorems.proofs.Outcomes.{judged-stop, judged-done, Head, head, Passed, passed}
+use Rattle.rows.specs.Rows.{stepRow}
+use Rattle.store.specs.Added.{withRecord, withForced}
 
 -- a refused step
 pub refused : (t a : List ℕ) (p : ℕ) (call : Call) {r : ℕ} → r ≡ stepRow t p call (length a) → r ≢ 0 → outcome r t a ≡ stepOn t a p call

@@ -1,3 +1,1 @@
-mod Puts
-mod Rows
-mod Done
+pub mod Done

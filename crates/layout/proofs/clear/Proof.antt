@@ -8,8 +8,6 @@ use mathlib.Core.Path.{_≡_, ap, _∙_}
 use borrow.Author.Needs.{needs}
 use Rattle.layout.proofs.clear.Statement.{statement}
 use Rattle.layout.proofs.clear.Tie as tie
-use Rattle.layout.proofs.clear.Reads as reads
-use Rattle.layout.proofs.clear.Lts as lts
 
 abbrev Inv-loop : tie.InvT-loop
 Inv-loop t₀ i₀ t i = (t ≡ replicate i 0 ++ drop i t₀) × (length t ≡ length t₀) × (i ≤ length t₀)
@@ -17,31 +15,24 @@ Inv-loop t₀ i₀ t i = (t ≡ replicate i 0 ++ drop i t₀) × (length t ≡ l
 abbrev μ-loop : tie.MeasureT-loop
 μ-loop t₀ i₀ t i = length t₀ - i
 
--- src/lib.rt:171:5
 loop-holds : tie.Need-loop-holds Inv-loop μ-loop
 loop-holds c = (fill-none _ 0, search needs, search needs)
 
--- src/lib.rt:172:9
 slice-write-t : tie.Need-slice-write-t Inv-loop μ-loop
 slice-write-t c = search needs
 
--- src/lib.rt:173:9
 add-i : tie.Need-add-i Inv-loop μ-loop
 add-i c = search needs
 
--- src/lib.rt:171:5
 loop-less : tie.Need-loop-less Inv-loop μ-loop
 loop-less c = search needs
 
--- src/lib.rt:171:5
 loop-again : tie.Need-loop-again Inv-loop μ-loop
 loop-again c = (ap (λ l. set l (c .before .loop .i) 0) (c .before .loop .inv .0) ∙ fill-more (c .before .loop .i) 0 (c .before .before .args .t .now) (omega arith), simp length-set (omega arith), omega arith)
 
--- src/lib.rt:167:1
 same-length : tie.Need-same-length Inv-loop μ-loop
 same-length c = search needs
 
--- src/lib.rt:167:1
 returns : tie.Need-returns Inv-loop μ-loop
 returns c = let h : c .before .loop .i ≡ length (c .before .before .args .t .now) = omega arith in c .before .loop .inv .0 ∙ rw (h, drop-length, append-nil)
 

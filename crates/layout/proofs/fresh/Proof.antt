@@ -1,52 +1,37 @@
 use native.Mathlib.Omega.{arith}
-use mathlib.Core.Path.{_≡_, sym, _∙_}
+use mathlib.Core.Path.{sym, _∙_}
 use borrow.Author.Tests.{not-true, not-false}
 use Rattle.layout.proofs.Laws.{fresh-range, fresh-size, fresh-done}
-use Rattle.rules.proofs.OneCall.{in-range}
+use Rattle.theorems.proofs.OneCall.{in-range}
 use Rattle.xdr.proofs.Laws.{two-puts}
 use borrow.Author.Needs.{needs}
 use Rattle.layout.proofs.fresh.Statement.{statement}
 use Rattle.layout.proofs.fresh.Tie as tie
-use Rattle.layout.proofs.fresh.Reads as reads
-use Rattle.layout.proofs.fresh.Lts as lts
-use Rattle.layout.proofs.clear.Reads as clear-reads
-use Rattle.layout.proofs.in_range.Reads as in-range-reads
-use Rattle.layout.proofs.table_size.Reads as table-size-reads
-use Rattle.xdr.proofs.put.Reads as put-reads
 
--- src/lib.rt:181:9
 in-range-requires : tie.Need-in-range-requires
 in-range-requires c κs = search needs
 
--- src/lib.rt:182:9
 returns : tie.Need-returns
 returns c = let a = c .before .before .before .args in fresh-range (a .t .now) (a .n) (a .e) (sym (c .before .in-range .ensures) ∙ not-true (c .before .in-range .result) (c .if1 .taken))
 
--- src/lib.rt:184:19
 table-size-requires : tie.Need-table-size-requires
 table-size-requires c κs = let a = c .before .before .before .args in let d = in-range (a .n) (a .e) (sym (c .before .in-range .ensures) ∙ not-false (c .before .in-range .result) (c .if1 .left)) in omega arith
 
--- src/lib.rt:185:9
 returns-2 : tie.Need-returns-2
 returns-2 c = let a = c .before .before .before .before .before .args in fresh-size (a .t .now) (a .n) (a .e) (sym (c .before .before .before .in-range .ensures) ∙ not-false (c .before .before .before .in-range .result) (c .before .before .if1 .left)) (λ z. c .if2 .taken (z ∙ sym (c .before .table-size .ensures)))
 
--- src/lib.rt:187:5
 clear-requires : tie.Need-clear-requires
 clear-requires c κs = search needs
 
--- src/lib.rt:188:5
 put-requires : tie.Need-put-requires
 put-requires c κs = search needs
 
--- src/lib.rt:189:5
 put-requires-2 : tie.Need-put-requires-2
 put-requires-2 c κs = search needs
 
--- src/lib.rt:178:1
 same-length : tie.Need-same-length
 same-length c = search needs
 
--- src/lib.rt:178:1
 returns-3 : tie.Need-returns-3
 returns-3 c = let a = c .before .before .before .before .before .before .before .before .before .before .before .before .before .before .before .before .before .args in fresh-done (a .t .now) (a .n) (a .e) (sym (c .before .before .before .before .before .before .before .before .before .before .before .before .before .before .before .in-range .ensures) ∙ not-false (c .before .before .before .before .before .before .before .before .before .before .before .before .before .before .before .in-range .result) (c .before .before .before .before .before .before .before .before .before .before .before .before .before .before .if1 .left)) (c .before .before .before .before .before .before .before .before .before .before .before .before .if2 .left ∙ c .before .before .before .before .before .before .before .before .before .before .before .before .before .table-size .ensures) (c .before .before .before .before .before .before .before .before .before .before .clear .ensures) (two-puts (c .before .before .before .before .before .before .before .before .before .before .clear .last .0) (a .n) (a .e) (c .before .before .before .before .before .before .put .ensures) (c .before .before .put2 .ensures))
 

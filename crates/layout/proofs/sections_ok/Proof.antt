@@ -8,9 +8,6 @@ use native.Mathlib.Nat.{mul-le-mul-right}
 use borrow.Author.Needs.{needs}
 use Rattle.layout.proofs.sections_ok.Statement.{statement}
 use Rattle.layout.proofs.sections_ok.Tie as tie
-use Rattle.layout.proofs.sections_ok.Reads as reads
-use Rattle.layout.proofs.sections_ok.Lts as lts
-use Rattle.layout.proofs.section_ok.Reads as section-ok-reads
 
 abbrev Inv-loop : tie.InvT-loop
 Inv-loop t n e ok₀ p₀ ok p = (ok ≡ sectionsOk n e (word t) p) × (p ≤ n)
@@ -18,27 +15,21 @@ Inv-loop t n e ok₀ p₀ ok p = (ok ≡ sectionsOk n e (word t) p) × (p ≤ n)
 abbrev μ-loop : tie.MeasureT-loop
 μ-loop t n e ok₀ p₀ ok p = n - p
 
--- src/lib.rt:122:5
 loop-holds : tie.Need-loop-holds Inv-loop μ-loop
 loop-holds c = (refl, search needs)
 
--- src/lib.rt:123:19
 section-ok-requires : tie.Need-section-ok-requires Inv-loop μ-loop
 section-ok-requires c κs = let a = c .before .before .before .args in let m = mul-le-mul-right {m = c .before .loop .p + 1} {n = a .n} (3 * (a .e + 1)) (omega arith) in omega arith
 
--- src/lib.rt:124:9
 add-p : tie.Need-add-p Inv-loop μ-loop
 add-p c = search needs
 
--- src/lib.rt:122:5
 loop-less : tie.Need-loop-less Inv-loop μ-loop
 loop-less c = search needs
 
--- src/lib.rt:122:5
 loop-again : tie.Need-loop-again Inv-loop μ-loop
 loop-again c = (rw add-one (cc), search needs)
 
--- src/lib.rt:116:1
 returns : tie.Need-returns Inv-loop μ-loop
 returns c = let h : c .before .loop .p ≡ c .before .before .before .args .n = omega arith in cc
 

@@ -3,26 +3,19 @@ use Rattle.layout.proofs.Laws.{product}
 use borrow.Author.Needs.{needs}
 use Rattle.layout.proofs.table_size.Statement.{statement}
 use Rattle.layout.proofs.table_size.Tie as tie
-use Rattle.layout.proofs.table_size.Reads as reads
-use Rattle.layout.proofs.table_size.Lts as lts
 
--- src/lib.rt:141:9
 mul-result : tie.Need-mul-result
 mul-result c = search needs
 
--- src/lib.rt:141:19
 add-result : tie.Need-add-result
 add-result c = search needs
 
--- src/lib.rt:141:9
 mul-result-2 : tie.Need-mul-result-2
 mul-result-2 c = omega (arith, product (c .args .n) (c .args .e) (omega arith) (omega arith))
 
--- src/lib.rt:141:5
 add-result-2 : tie.Need-add-result-2
 add-result-2 c = omega (arith, product (c .args .n) (c .args .e) (omega arith) (omega arith))
 
--- src/lib.rt:137:1
 returns : tie.Need-returns
 returns c = search needs
 

@@ -7,9 +7,6 @@ use Rattle.rules.specs.Table.{zerosAt}
 use borrow.Author.Needs.{needs}
 use Rattle.layout.proofs.zeros.Statement.{statement}
 use Rattle.layout.proofs.zeros.Tie as tie
-use Rattle.layout.proofs.zeros.Reads as reads
-use Rattle.layout.proofs.zeros.Lts as lts
-use Rattle.xdr.proofs.get.Reads as get-reads
 
 abbrev Inv-loop : tie.InvT-loop
 Inv-loop t at m ok₀ i₀ ok i = (ok ≡ zerosAt (word t) at i) × (i ≤ m)
@@ -17,31 +14,24 @@ Inv-loop t at m ok₀ i₀ ok i = (ok ≡ zerosAt (word t) at i) × (i ≤ m)
 abbrev μ-loop : tie.MeasureT-loop
 μ-loop t at m ok₀ i₀ ok i = m - i
 
--- src/lib.rt:92:5
 loop-holds : tie.Need-loop-holds Inv-loop μ-loop
 loop-holds c = (refl, search needs)
 
--- src/lib.rt:93:32
 add-get : tie.Need-add-get Inv-loop μ-loop
 add-get c = search needs
 
--- src/lib.rt:93:20
 get-requires : tie.Need-get-requires Inv-loop μ-loop
 get-requires c κs = search needs
 
--- src/lib.rt:94:9
 add-i : tie.Need-add-i Inv-loop μ-loop
 add-i c = search needs
 
--- src/lib.rt:92:5
 loop-less : tie.Need-loop-less Inv-loop μ-loop
 loop-less c = search needs
 
--- src/lib.rt:92:5
 loop-again : tie.Need-loop-again Inv-loop μ-loop
 loop-again c = (rw add-one (cc), search needs)
 
--- src/lib.rt:86:1
 returns : tie.Need-returns Inv-loop μ-loop
 returns c = let h : c .before .loop .i ≡ c .before .before .before .args .m = omega arith in cc
 

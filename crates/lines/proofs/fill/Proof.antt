@@ -1,19 +1,15 @@
 use native.Mathlib.Omega.{arith}
-use mathlib.Core.Path.{_≡_, refl, sym, ap, _∙_}
+use mathlib.Core.Path.{_≡_, refl, ap, _∙_}
 use Prim.Native.Nat.{_+_, _-_, _*_, _≤_}
 use native.Mathlib.Nat.{mul-le-mul-right}
 use lib.ListN.{length}
-use Rattle.xdr.specs.Words.{word, putWord, putWords}
+use Rattle.xdr.specs.Words.{word, putWords}
 use Rattle.lines.specs.Positions.{positions}
 use Rattle.lines.proofs.Laws.{line-next}
 use Rattle.xdr.proofs.Laws.{put-length}
 use borrow.Author.Needs.{needs}
 use Rattle.lines.proofs.fill.Statement.{statement}
 use Rattle.lines.proofs.fill.Tie as tie
-use Rattle.lines.proofs.fill.Reads as reads
-use Rattle.lines.proofs.fill.Lts as lts
-use Rattle.lines.proofs.position_of.Reads as position-of-reads
-use Rattle.xdr.proofs.put.Reads as put-reads
 
 abbrev Inv-loop : tie.InvT-loop
 Inv-loop t area₀ n e m p₀ area p = (area ≡ putWords area₀ 0 (positions (word t) e m p)) × (p ≤ n) × (length area ≡ length area₀)
@@ -21,43 +17,35 @@ Inv-loop t area₀ n e m p₀ area p = (area ≡ putWords area₀ 0 (positions (
 abbrev μ-loop : tie.MeasureT-loop
 μ-loop t area₀ n e m p₀ area p = n - p
 
--- src/lib.rt:47:5
 loop-holds : tie.Need-loop-holds Inv-loop μ-loop
 unfolding putWords
 loop-holds c = (refl, search needs, search needs)
 
--- src/lib.rt:48:27
 position-of-requires : tie.Need-position-of-requires Inv-loop μ-loop
-position-of-requires c κs = 
+position-of-requires c κs =
     let a = c .before .before .before .before .before .args in
     let p = c .before .before .loop .p in
     let m = mul-le-mul-right {m = p + 1} {n = a .n} (3 * (a .e + 1)) (omega arith) in
     (omega arith, omega arith, omega arith, c .before .before .before .before .before .pre .4 p (c .before .loop-test .taken))
 
--- src/lib.rt:48:9
 put-requires : tie.Need-put-requires Inv-loop μ-loop
 put-requires c κs = search needs
 
--- src/lib.rt:49:9
 add-p : tie.Need-add-p Inv-loop μ-loop
 add-p c = search needs
 
--- src/lib.rt:47:5
 loop-less : tie.Need-loop-less Inv-loop μ-loop
 loop-less c = search needs
 
--- src/lib.rt:47:5
 loop-again : tie.Need-loop-again Inv-loop μ-loop
-loop-again c = 
+loop-again c =
     let a = c .before .before .before .before .before .before .before .before .before .args in
     let s = c .before .before .before .before .before .before .loop in
     (line-next (a .area .now) (word (a .t .now)) (a .e) (a .m) (s .p) (s .inv .0) (c .before .before .put .ensures) (c .before .before .before .position-of .ensures), search needs, ap length (c .before .before .put .ensures) ∙ put-length (s .area) (s .p) (c .before .before .before .position-of .result) ∙ s .inv .2)
 
--- src/lib.rt:42:1
 same-length : tie.Need-same-length Inv-loop μ-loop
 same-length c = search needs
 
--- src/lib.rt:42:1
 returns : tie.Need-returns Inv-loop μ-loop
 returns c = let h : c .before .loop .p ≡ c .before .before .before .before .args .n = omega arith in cc
 

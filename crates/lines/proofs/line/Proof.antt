@@ -1,57 +1,44 @@
 use native.Mathlib.Omega.{arith}
-use mathlib.Core.Path.{_≡_, refl, sym, ap, _∙_}
 use Rattle.lines.proofs.Laws.{asked, counts, line-refused, line-done}
 use borrow.Author.Needs.{needs}
 use Rattle.lines.proofs.line.Statement.{statement}
 use Rattle.lines.proofs.line.Tie as tie
-use Rattle.lines.proofs.line.Reads as reads
-use Rattle.lines.proofs.line.Lts as lts
-use Rattle.lines.proofs.fill.Reads as fill-reads
-use Rattle.lines.proofs.line_row.Reads as line-row-reads
-use Rattle.xdr.proofs.size.Reads as size-reads
 
--- src/lib.rt:69:9
 line-row-requires : tie.Need-line-row-requires
 line-row-requires c κs = search needs
 
--- src/lib.rt:71:9
 returns : tie.Need-returns
-returns c = 
+returns c =
     let a = c .before .before .before .before .args in
     let t = a .table .now in
     line-refused t (a .area .now) (a .number) (c .before .line-row .ensures) (c .if1 .taken)
 
--- src/lib.rt:73:9
 size-requires : tie.Need-size-requires
-size-requires c κs = 
+size-requires c κs =
     let a = c .before .before .before .before .args in
     let t = a .table .now in
     let Q = asked t (a .area .now) (λ i. omega (arith, c .before .before .before .shared-slice-known .given i)) (c .before .line-row .ensures) (c .if1 .left) in
     omega (arith, Q .table .is .whole)
 
--- src/lib.rt:74:9
 size-requires-2 : tie.Need-size-requires-2
-size-requires-2 c κs = 
+size-requires-2 c κs =
     let a = c .before .before .before .before .before .args in
     let t = a .table .now in
     let Q = asked t (a .area .now) (λ i. omega (arith, c .before .before .before .before .shared-slice-known .given i)) (c .before .before .line-row .ensures) (c .before .if1 .left) in
     omega (arith, Q .table .is .whole)
 
--- src/lib.rt:75:5
 fill-requires : tie.Need-fill-requires
-fill-requires c κs = 
+fill-requires c κs =
     let a = c .before .before .before .before .before .before .before .args in
     let t = a .table .now in
     let Q = asked t (a .area .now) (λ i. omega (arith, c .before .before .before .before .before .before .shared-slice-known .given i)) (c .before .before .before .before .line-row .ensures) (c .before .before .before .if1 .left) in
     (omega (arith, Q .table .range .processes), omega (arith, Q .table .range .records), rw (c .before .before .size .ensures .0, c .before .size2 .ensures .0) (omega (arith, Q .table .is .whole)), omega (arith, Q .area), counts t (Q .table) (c .before .before .size .ensures .0) (c .before .size2 .ensures .0))
 
--- src/lib.rt:66:1
 same-length : tie.Need-same-length
 same-length c = search needs
 
--- src/lib.rt:66:1
 returns-2 : tie.Need-returns-2
-returns-2 c = 
+returns-2 c =
     let a = c .before .before .before .before .before .before .before .before .before .before .args in
     let t = a .table .now in
     line-done t (a .area .now) (λ i. omega (arith, c .before .before .before .before .before .before .before .before .before .shared-slice-known .given i)) (λ i. omega (arith, c .before .before .before .before .before .before .before .before .slice-known .given i)) (a .number) (c .before .before .before .before .before .before .before .line-row .ensures) (c .before .before .before .before .before .before .if1 .left) (c .before .before .before .before .before .size .ensures .0) (c .before .before .before .before .size2 .ensures .0) (c .before .before .fill .ensures)

@@ -2,35 +2,25 @@ use Rattle.xdr.proofs.Laws.{three-puts}
 use borrow.Author.Needs.{needs}
 use Rattle.xdr.proofs.put_three.Statement.{statement}
 use Rattle.xdr.proofs.put_three.Tie as tie
-use Rattle.xdr.proofs.put_three.Reads as reads
-use Rattle.xdr.proofs.put_three.Lts as lts
-use Rattle.xdr.proofs.put.Reads as put-reads
 
--- src/lib.rt:49:5
 put-requires : tie.Need-put-requires
 put-requires c κs = search needs
 
--- src/lib.rt:50:12
 add-put : tie.Need-add-put
 add-put c = search needs
 
--- src/lib.rt:50:5
 put-requires-2 : tie.Need-put-requires-2
 put-requires-2 c κs = search needs
 
--- src/lib.rt:51:12
 add-put-2 : tie.Need-add-put-2
 add-put-2 c = search needs
 
--- src/lib.rt:51:5
 put-requires-3 : tie.Need-put-requires-3
 put-requires-3 c κs = search needs
 
--- src/lib.rt:45:1
 same-length : tie.Need-same-length
 same-length c = search needs
 
--- src/lib.rt:45:1
 returns : tie.Need-returns
 returns c = let a = c .before .before .before .before .before .before .before .before .before .before .before .before .before .args in three-puts (a .s .now) (a .i) (a .x) (a .y) (a .z) (c .before .before .before .before .before .before .before .before .before .before .put .ensures) (c .before .before .before .before .before .before .put2 .ensures) (c .before .before .put3 .ensures)
 

@@ -1,0 +1,28 @@
+use Rattle.rows.proofs.Rows.{act-table, act-area, act-process, act-none}
+use Rattle.theorems.proofs.Outcomes.{long}
+use native.Mathlib.Omega.{arith}
+use borrow.Author.Needs.{needs}
+use Rattle.rows.proofs.act_row.Statement.{statement}
+use Rattle.rows.proofs.act_row.Tie as tie
+
+table-row-requires : tie.Need-table-row-requires
+table-row-requires c κs = search needs
+
+returns : tie.Need-returns
+returns c = let a = c .before .before .before .args in act-table (a .t .now) (a .len) (a .want) (a .p) (c .before .table-row .ensures) (c .if1 .taken)
+
+size-requires : tie.Need-size-requires
+size-requires c κs = let l = long (c .before .before .before .args .t .now) (c .before .table-row .ensures) (c .if1 .left) in omega arith
+
+returns-2 : tie.Need-returns-2
+returns-2 c = let a = c .before .before .before .before .before .args in act-area (a .t .now) (a .len) (a .want) (a .p) (c .before .before .before .table-row .ensures) (c .before .before .if1 .left) (c .if2 .taken)
+
+returns-3 : tie.Need-returns-3
+returns-3 c = let a = c .before .before .before .before .before .before .args in act-process (a .t .now) (a .len) (a .want) (a .p) (c .before .before .before .before .table-row .ensures) (c .before .before .before .if1 .left) (c .before .if2 .left) (c .before .before .size .ensures .0) (c .if3 .taken)
+
+returns-4 : tie.Need-returns-4
+returns-4 c = let a = c .before .before .before .before .before .before .args in act-none (a .t .now) (a .len) (a .want) (a .p) (c .before .before .before .before .table-row .ensures) (c .before .before .before .if1 .left) (c .before .if2 .left) (c .before .before .size .ensures .0) (c .if3 .left)
+
+pub act-row-spec : {M : Type 1} → statement M
+act-row-spec =
+    tie.close (tie.spec table-row-requires returns size-requires returns-2 returns-3 returns-4)

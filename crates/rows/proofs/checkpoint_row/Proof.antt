@@ -1,0 +1,95 @@
+use Rattle.theorems.proofs.Outcomes.{head}
+use Rattle.rows.proofs.Rows.{acts, step-stopped, checkpoint-full, checkpoint-number, checkpoint-none}
+use native.Mathlib.Omega.{arith}
+use mathlib.Core.Path.{_∙_}
+use Rattle.rules.specs.Steps.{checkpoint}
+use Rattle.layout.proofs.Laws.{product}
+use borrow.Author.Needs.{needs}
+use Rattle.rows.proofs.checkpoint_row.Statement.{statement}
+use Rattle.rows.proofs.checkpoint_row.Tie as tie
+
+act-row-requires : tie.Need-act-row-requires
+act-row-requires c κs = search needs
+
+returns : tie.Need-returns
+returns c = let a = c .before .before .before .args in step-stopped (a .t .now) (a .p) checkpoint (a .len) (c .before .act-row .ensures) (c .if1 .taken)
+
+size-requires : tie.Need-size-requires
+size-requires c κs =
+    let a = c .before .before .before .args in
+    let w = acts (a .t .now) (λ i. omega (arith, c .before .before .shared-slice-known .given i)) (a .len) 4 (a .p) (c .before .act-row .ensures) (c .if1 .left) in
+    omega (arith, w .table .is .whole)
+
+size-requires-2 : tie.Need-size-requires-2
+size-requires-2 c κs =
+    let a = c .before .before .before .before .args in
+    let w = acts (a .t .now) (λ i. omega (arith, c .before .before .before .shared-slice-known .given i)) (a .len) 4 (a .p) (c .before .before .act-row .ensures) (c .before .if1 .left) in
+    omega (arith, w .table .is .whole)
+
+start-requires : tie.Need-start-requires
+start-requires c κs = let a = c .before .before .before .before .before .args in let w = acts (a .t .now) (λ i. omega (arith, c .before .before .before .before .shared-slice-known .given i)) (a .len) 4 (a .p) (c .before .before .before .act-row .ensures) (c .before .before .if1 .left) in omega (arith, w .below, w .table .range .processes, w .table .range .records)
+
+size-requires-3 : tie.Need-size-requires-3
+size-requires-3 c κs =
+    let a = c .before .before .before .before .before .before .args in
+    let w = acts (a .t .now) (λ i. omega (arith, c .before .before .before .before .before .shared-slice-known .given i)) (a .len) 4 (a .p) (c .before .before .before .before .act-row .ensures) (c .before .before .before .if1 .left) in
+    let h = head (a .t .now) (w .table) (a .p) (w .below) (c .before .size2 .ensures .0) (c .start .ensures .0) in
+    omega (arith, h .inside)
+
+add-if2 : tie.Need-add-if2
+add-if2 c = search needs
+
+returns-2 : tie.Need-returns-2
+returns-2 c =
+    let a = c .before .before .before .before .before .before .before .before .args in
+    let w = acts (a .t .now) (λ i. omega (arith, c .before .before .before .before .before .before .before .shared-slice-known .given i)) (a .len) 4 (a .p) (c .before .before .before .before .before .before .act-row .ensures) (c .before .before .before .before .before .if1 .left) in
+    let h = head (a .t .now) (w .table) (a .p) (w .below) (c .before .before .before .size2 .ensures .0) (c .before .before .start .ensures .0) in
+    checkpoint-full (a .t .now) (a .p) (a .len) (c .before .before .before .before .before .before .act-row .ensures) (c .before .before .before .before .before .if1 .left) (c .before .before .before .before .size .ensures .0) (c .before .before .before .size2 .ensures .0) (c .before .size3 .ensures .0 ∙ h .count) (c .if2 .taken)
+
+add-size : tie.Need-add-size
+add-size c = search needs
+
+size-requires-4 : tie.Need-size-requires-4
+size-requires-4 c κs =
+    let a = c .before .before .before .before .before .before .before .before .args in
+    let w = acts (a .t .now) (λ i. omega (arith, c .before .before .before .before .before .before .before .shared-slice-known .given i)) (a .len) 4 (a .p) (c .before .before .before .before .before .before .act-row .ensures) (c .before .before .before .before .before .if1 .left) in
+    let h = head (a .t .now) (w .table) (a .p) (w .below) (c .before .before .before .size2 .ensures .0) (c .before .before .start .ensures .0) in
+    omega (arith, h .inside)
+
+mul-if3 : tie.Need-mul-if3
+mul-if3 c =
+    let a = c .before .before .before .before .before .before .before .before .before .args in
+    let w = acts (a .t .now) (λ i. omega (arith, c .before .before .before .before .before .before .before .before .shared-slice-known .given i)) (a .len) 4 (a .p) (c .before .before .before .before .before .before .before .act-row .ensures) (c .before .before .before .before .before .before .if1 .left) in
+    omega (arith, product (c .before .before .before .before .before .size .result) (c .before .before .before .before .size2 .result) (omega (arith, w .table .range .processes)) (omega (arith, w .table .range .records)))
+
+returns-3 : tie.Need-returns-3
+returns-3 c =
+    let a = c .before .before .before .before .before .before .before .before .before .before .args in
+    let w = acts (a .t .now) (λ i. omega (arith, c .before .before .before .before .before .before .before .before .before .shared-slice-known .given i)) (a .len) 4 (a .p) (c .before .before .before .before .before .before .before .before .act-row .ensures) (c .before .before .before .before .before .before .before .if1 .left) in
+    let h = head (a .t .now) (w .table) (a .p) (w .below) (c .before .before .before .before .before .size2 .ensures .0) (c .before .before .before .before .start .ensures .0) in
+    checkpoint-number (a .t .now) (a .p) (a .len) (c .before .before .before .before .before .before .before .before .act-row .ensures) (c .before .before .before .before .before .before .before .if1 .left) (c .before .before .before .before .before .before .size .ensures .0) (c .before .before .before .before .before .size2 .ensures .0) (c .before .before .before .size3 .ensures .0 ∙ h .count) (c .before .before .if2 .left) (c .before .size4 .ensures .0 ∙ h .current) (c .if3 .taken)
+
+returns-4 : tie.Need-returns-4
+returns-4 c =
+    let a = c .before .before .before .before .before .before .before .before .before .before .args in
+    let w = acts (a .t .now) (λ i. omega (arith, c .before .before .before .before .before .before .before .before .before .shared-slice-known .given i)) (a .len) 4 (a .p) (c .before .before .before .before .before .before .before .before .act-row .ensures) (c .before .before .before .before .before .before .before .if1 .left) in
+    let h = head (a .t .now) (w .table) (a .p) (w .below) (c .before .before .before .before .before .size2 .ensures .0) (c .before .before .before .before .start .ensures .0) in
+    checkpoint-none (a .t .now) (a .p) (a .len) (c .before .before .before .before .before .before .before .before .act-row .ensures) (c .before .before .before .before .before .before .before .if1 .left) (c .before .before .before .before .before .before .size .ensures .0) (c .before .before .before .before .before .size2 .ensures .0) (c .before .before .before .size3 .ensures .0 ∙ h .count) (c .before .before .if2 .left) (c .before .size4 .ensures .0 ∙ h .current) (c .if3 .left)
+
+pub checkpoint-row-spec : {M : Type 1} → statement M
+checkpoint-row-spec =
+    tie.close
+    (tie.spec
+    act-row-requires
+    returns
+    size-requires
+    size-requires-2
+    start-requires
+    size-requires-3
+    add-if2
+    returns-2
+    add-size
+    size-requires-4
+    mul-if3
+    returns-3
+    returns-4)

@@ -1,0 +1,59 @@
+use Rattle.rows.proofs.Rows.{pairs, receipt-stopped, receipt-going}
+use Rattle.theorems.proofs.Outcomes.{head}
+use native.Mathlib.Omega.{arith}
+use mathlib.Core.Path.{_∙_}
+use borrow.Author.Needs.{needs}
+use Rattle.rows.proofs.receipt_row.Statement.{statement}
+use Rattle.rows.proofs.receipt_row.Tie as tie
+
+pair-row-requires : tie.Need-pair-row-requires
+pair-row-requires c κs = search needs
+
+returns : tie.Need-returns
+returns c = let a = c .before .before .before .args in (receipt-stopped (a .t .now) (a .p) (a .q) (a .k) (a .len) (c .before .pair-row .ensures) (c .if1 .taken), λ z. absurd (c .if1 .taken z))
+
+size-requires : tie.Need-size-requires
+size-requires c κs =
+    let a = c .before .before .before .args in
+    let w = pairs (a .t .now) (λ i. omega (arith, c .before .before .shared-slice-known .given i)) (a .len) (a .p) (a .q) (c .before .pair-row .ensures) (c .if1 .left) in
+    omega (arith, w .acting .table .is .whole)
+
+start-requires : tie.Need-start-requires
+start-requires c κs =
+    let a = c .before .before .before .before .args in
+    let w = pairs (a .t .now) (λ i. omega (arith, c .before .before .before .shared-slice-known .given i)) (a .len) (a .p) (a .q) (c .before .before .pair-row .ensures) (c .before .if1 .left) in
+    omega (arith, w .acting .below, w .acting .table .range .processes, w .acting .table .range .records)
+
+start-requires-2 : tie.Need-start-requires-2
+start-requires-2 c κs =
+    let a = c .before .before .before .before .before .args in
+    let w = pairs (a .t .now) (λ i. omega (arith, c .before .before .before .before .shared-slice-known .given i)) (a .len) (a .p) (a .q) (c .before .before .before .pair-row .ensures) (c .before .before .if1 .left) in
+    omega (arith, w .below, w .acting .table .range .processes, w .acting .table .range .records)
+
+message-row-requires : tie.Need-message-row-requires
+message-row-requires c κs =
+    let a = c .before .before .before .before .before .before .args in
+    let w = pairs (a .t .now) (λ i. omega (arith, c .before .before .before .before .before .shared-slice-known .given i)) (a .len) (a .p) (a .q) (c .before .before .before .before .pair-row .ensures) (c .before .before .before .if1 .left) in
+    let h = head (a .t .now) (w .acting .table) (a .p) (w .acting .below) (c .before .before .size .ensures .0) (c .before .start .ensures .0) in
+    let g = head (a .t .now) (w .acting .table) (a .q) (w .below) (c .before .before .size .ensures .0) (c .start2 .ensures .0) in
+    (h .most, h .near, g .near, h .short, g .short, h .inside, g .inside)
+
+returns-2 : tie.Need-returns-2
+returns-2 c =
+    let a = c .before .before .before .before .before .before .before .args in
+    let w = pairs (a .t .now) (λ i. omega (arith, c .before .before .before .before .before .before .shared-slice-known .given i)) (a .len) (a .p) (a .q) (c .before .before .before .before .before .pair-row .ensures) (c .before .before .before .before .if1 .left) in
+    let h = head (a .t .now) (w .acting .table) (a .p) (w .acting .below) (c .before .before .before .size .ensures .0) (c .before .before .start .ensures .0) in
+    let g = head (a .t .now) (w .acting .table) (a .q) (w .below) (c .before .before .before .size .ensures .0) (c .before .start2 .ensures .0) in
+    (receipt-going (a .t .now) (a .p) (a .q) (a .k) (a .len) (c .before .before .before .before .before .pair-row .ensures) (c .before .before .before .before .if1 .left) (c .before .before .before .size .ensures .0) (h .count) (h .current) (h .events) (g .events) (c .message-row .ensures .0), λ z. c .message-row .ensures .1 z ∙ rw (g .events))
+
+pub receipt-row-spec : {M : Type 1} → statement M
+receipt-row-spec =
+    tie.close
+    (tie.spec
+    pair-row-requires
+    returns
+    size-requires
+    start-requires
+    start-requires-2
+    message-row-requires
+    returns-2)

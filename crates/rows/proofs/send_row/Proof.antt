@@ -1,0 +1,62 @@
+use Rattle.rows.proofs.Rows.{pairs, send-stopped, send-full, send-none}
+use Rattle.theorems.proofs.Outcomes.{head}
+use native.Mathlib.Omega.{arith}
+use mathlib.Core.Path.{_∙_}
+use borrow.Author.Needs.{needs}
+use Rattle.rows.proofs.send_row.Statement.{statement}
+use Rattle.rows.proofs.send_row.Tie as tie
+
+pair-row-requires : tie.Need-pair-row-requires
+pair-row-requires c κs = search needs
+
+returns : tie.Need-returns
+returns c = let a = c .before .before .before .args in send-stopped (a .t .now) (a .p) (a .q) (a .len) (c .before .pair-row .ensures) (c .if1 .taken)
+
+size-requires : tie.Need-size-requires
+size-requires c κs =
+    let a = c .before .before .before .args in
+    let w = pairs (a .t .now) (λ i. omega (arith, c .before .before .shared-slice-known .given i)) (a .len) (a .p) (a .q) (c .before .pair-row .ensures) (c .if1 .left) in
+    omega (arith, w .acting .table .is .whole)
+
+start-requires : tie.Need-start-requires
+start-requires c κs =
+    let a = c .before .before .before .before .args in
+    let w = pairs (a .t .now) (λ i. omega (arith, c .before .before .before .shared-slice-known .given i)) (a .len) (a .p) (a .q) (c .before .before .pair-row .ensures) (c .before .if1 .left) in
+    omega (arith, w .acting .below, w .acting .table .range .processes, w .acting .table .range .records)
+
+size-requires-2 : tie.Need-size-requires-2
+size-requires-2 c κs =
+    let a = c .before .before .before .before .before .args in
+    let w = pairs (a .t .now) (λ i. omega (arith, c .before .before .before .before .shared-slice-known .given i)) (a .len) (a .p) (a .q) (c .before .before .before .pair-row .ensures) (c .before .before .if1 .left) in
+    let h = head (a .t .now) (w .acting .table) (a .p) (w .acting .below) (c .before .size .ensures .0) (c .start .ensures .0) in
+    omega (arith, h .inside)
+
+add-if2 : tie.Need-add-if2
+add-if2 c = search needs
+
+returns-2 : tie.Need-returns-2
+returns-2 c =
+    let a = c .before .before .before .before .before .before .before .args in
+    let w = pairs (a .t .now) (λ i. omega (arith, c .before .before .before .before .before .before .shared-slice-known .given i)) (a .len) (a .p) (a .q) (c .before .before .before .before .before .pair-row .ensures) (c .before .before .before .before .if1 .left) in
+    let h = head (a .t .now) (w .acting .table) (a .p) (w .acting .below) (c .before .before .before .size .ensures .0) (c .before .before .start .ensures .0) in
+    send-full (a .t .now) (a .p) (a .q) (a .len) (c .before .before .before .before .before .pair-row .ensures) (c .before .before .before .before .if1 .left) (c .before .before .before .size .ensures .0) (c .before .size2 .ensures .0 ∙ h .count) (c .if2 .taken)
+
+returns-3 : tie.Need-returns-3
+returns-3 c =
+    let a = c .before .before .before .before .before .before .before .args in
+    let w = pairs (a .t .now) (λ i. omega (arith, c .before .before .before .before .before .before .shared-slice-known .given i)) (a .len) (a .p) (a .q) (c .before .before .before .before .before .pair-row .ensures) (c .before .before .before .before .if1 .left) in
+    let h = head (a .t .now) (w .acting .table) (a .p) (w .acting .below) (c .before .before .before .size .ensures .0) (c .before .before .start .ensures .0) in
+    send-none (a .t .now) (a .p) (a .q) (a .len) (c .before .before .before .before .before .pair-row .ensures) (c .before .before .before .before .if1 .left) (c .before .before .before .size .ensures .0) (c .before .size2 .ensures .0 ∙ h .count) (c .if2 .left)
+
+pub send-row-spec : {M : Type 1} → statement M
+send-row-spec =
+    tie.close
+    (tie.spec
+    pair-row-requires
+    returns
+    size-requires
+    start-requires
+    size-requires-2
+    add-if2
+    returns-2
+    returns-3)

@@ -1,0 +1,120 @@
+// The rows of checkpoint, send and receipt (document 01, "Where a call is stopped"), in their order.
+ghost use mathlib.Core.Path.{_≡_};
+ghost use mathlib.Core.Bool.{cond};
+ghost use Prim.Native.Nat.{_+_, _*_, _≤_};
+ghost use lib.ListN.{length};
+ghost use Rattle.xdr.specs.Words.{word};
+ghost use Rattle.rules.specs.Records.{history, carried};
+ghost use Rattle.rules.specs.Table.{recordsAt, decoded};
+ghost use Rattle.rules.specs.Steps.{checkpoint, send, receipt};
+ghost use Rattle.rules.specs.Calls.{first};
+ghost use Rattle.rows.specs.Rows.{actRows, pairRows, messageRows, stepRow};
+
+// The first row met, as far as the table, an area that wants `want` bytes and the acting process go, or 0.
+fn act_row(t: &[u8], len: usize, want: usize, p: usize) -> u32
+    ensures { λ r. ⌜ r ≡ first (actRows (now (t .entry)) len want p) ⌝ }
+{
+    let row = layout::table_row(t);
+    if row != 0 {
+        return row;
+    }
+    let n = xdr::size(t, 0);
+    if len != want {
+        return 4;
+    }
+    if n <= p {
+        return 5;
+    }
+    0
+}
+
+pub fn checkpoint_row(t: &[u8], len: usize, p: usize) -> u32
+    ensures { λ r. ⌜ r ≡ stepRow (now (t .entry)) p checkpoint len ⌝ }
+{
+    let row = act_row(t, len, 4, p);
+    if row != 0 {
+        return row;
+    }
+    let n = xdr::size(t, 0);
+    let e = xdr::size(t, 1);
+    let at = layout::start(e, p);
+    if e < xdr::size(t, at) + 1 {
+        return 9;
+    }
+    if xdr::size(t, at + 1) == n * e {
+        return 10;
+    }
+    0
+}
+
+// The same as far as the other process goes, for an area of 8 bytes.
+fn pair_row(t: &[u8], len: usize, p: usize, q: usize) -> u32
+    ensures { λ r. ⌜ r ≡ first (pairRows (now (t .entry)) len p q) ⌝ }
+{
+    let row = act_row(t, len, 8, p);
+    if row != 0 {
+        return row;
+    }
+    if (xdr::size(t, 0) <= q) | (q == p) {
+        return 6;
+    }
+    0
+}
+
+pub fn send_row(t: &[u8], len: usize, p: usize, q: usize) -> u32
+    ensures { λ r. ⌜ r ≡ stepRow (now (t .entry)) p (send q) len ⌝ }
+{
+    let row = pair_row(t, len, p, q);
+    if row != 0 {
+        return row;
+    }
+    let e = xdr::size(t, 1);
+    if e < xdr::size(t, layout::start(e, p)) + 1 {
+        return 9;
+    }
+    0
+}
+
+// The row that stops a receipt, or 0 and the number that its message carries.
+pub struct Message {
+    pub row: u32,
+    pub carried: u32,
+}
+
+// The records that a receipt needs.
+fn needed(forces: bool) -> usize
+    ensures { λ r. ⌜ (r ≡ cond forces 2 1) × (r ≤ 2) ⌝ }
+{
+    if forces { 2 } else { 1 }
+}
+
+// Message k of q, whose section starts at word `from`, to p, whose section starts at word `at`.
+fn message_row(t: &[u8], e: usize, at: usize, from: usize, p: usize, q: usize, k: usize) -> Message
+    requires { ⌜ (e ≤ 1024) × (at ≤ 65536) × (from ≤ 65536) × (word (now t) at ≤ e) × (word (now t) from ≤ e) × (4 * (at + 3 + 3 * e) ≤ length (now t)) × (4 * (from + 3 + 3 * e) ≤ length (now t)) ⌝ }
+    ensures { λ r. ⌜ (r .row ≡ first (messageRows e (word (now (t .entry)) at) (word (now (t .entry)) (at + 1)) (recordsAt (word (now (t .entry))) (at + 3) (word (now (t .entry)) at)) (recordsAt (word (now (t .entry))) (from + 3) (word (now (t .entry)) from)) p q k)) × (r .row ≡ 0 → r .carried ≡ carried (recordsAt (word (now (t .entry))) (from + 3) (word (now (t .entry)) from)) k) ⌝ }
+{
+    let c = xdr::size(t, at);
+    let m = scans::find_send(t, from + 3, xdr::size(t, from), k);
+    let carried = m.carried;
+    if !((0 < k) & (k <= m.sends) & ((m.to as usize) == p)) {
+        return Message { row: 7, carried };
+    }
+    if scans::has_receipt(t, at + 3, c, q, k) {
+        return Message { row: 8, carried };
+    }
+    if e < c + needed(xdr::get(t, at + 1) < carried) {
+        return Message { row: 9, carried };
+    }
+    Message { row: 0, carried }
+}
+
+pub fn receipt_row(t: &[u8], len: usize, p: usize, q: usize, k: usize) -> Message
+    ensures { λ r. ⌜ (r .row ≡ stepRow (now (t .entry)) p (receipt q k) len) × (r .row ≡ 0 → r .carried ≡ carried (history (decoded (now (t .entry))) q) k) ⌝ }
+{
+    let row = pair_row(t, len, p, q);
+    if row != 0 {
+        return Message { row, carried: 0 };
+    }
+    let e = xdr::size(t, 1);
+    message_row(t, e, layout::start(e, p), layout::start(e, q), p, q, k)
+}

@@ -1,0 +1,72 @@
+use native.Mathlib.Omega.{arith}
+use mathlib.Core.Path.{_≡_, refl}
+use native.Mathlib.Numerals.{add-one}
+use Rattle.xdr.specs.Words.{word}
+use Rattle.rules.specs.Table.{recordsAt}
+use Prim.Native.Nat.{_-_, _≤_}
+use Rattle.rules.specs.Records.{hasReceipt}
+use Rattle.theorems.proofs.Scans.{receipt-event}
+use borrow.Author.Needs.{needs}
+use Rattle.scans.proofs.has_receipt.Statement.{statement}
+use Rattle.scans.proofs.has_receipt.Tie as tie
+
+abbrev Inv-loop : tie.InvT-loop
+Inv-loop t at c q k found₀ i₀ found i = (found ≡ hasReceipt (recordsAt (word t) at i) q k) × (i ≤ c)
+
+abbrev μ-loop : tie.MeasureT-loop
+μ-loop t at c q k found₀ i₀ found i = c - i
+
+loop-holds : tie.Need-loop-holds Inv-loop μ-loop
+loop-holds c = (refl, search needs)
+
+mul-w : tie.Need-mul-w Inv-loop μ-loop
+mul-w c = search needs
+
+add-w : tie.Need-add-w Inv-loop μ-loop
+add-w c = search needs
+
+size-requires : tie.Need-size-requires Inv-loop μ-loop
+size-requires c κs = search needs
+
+add-size : tie.Need-add-size Inv-loop μ-loop
+add-size c = search needs
+
+size-requires-2 : tie.Need-size-requires-2 Inv-loop μ-loop
+size-requires-2 c κs = search needs
+
+add-size-2 : tie.Need-add-size-2 Inv-loop μ-loop
+add-size-2 c = search needs
+
+size-requires-3 : tie.Need-size-requires-3 Inv-loop μ-loop
+size-requires-3 c κs = search needs
+
+add-i : tie.Need-add-i Inv-loop μ-loop
+add-i c = search needs
+
+loop-less : tie.Need-loop-less Inv-loop μ-loop
+loop-less c = search needs
+
+loop-again : tie.Need-loop-again Inv-loop μ-loop
+loop-again c = (rw (add-one, receipt-event) (cc), search needs)
+
+returns : tie.Need-returns Inv-loop μ-loop
+returns c = let h : c .before .loop .i ≡ c .before .before .before .args .c = omega arith in cc
+
+pub has-receipt-spec : {M : Type 1} → statement M
+has-receipt-spec =
+    tie.close
+    (tie.spec
+    Inv-loop
+    μ-loop
+    loop-holds
+    mul-w
+    add-w
+    size-requires
+    add-size
+    size-requires-2
+    add-size-2
+    size-requires-3
+    add-i
+    loop-less
+    loop-again
+    returns)

@@ -1,0 +1,43 @@
+-- Words stored one after the other are the records of specs/Added.antt. Plain variables, so that a function's proof only hands over facts.
+use mathlib.Core.Path.{_≡_, refl, ap, _∙_}
+use mathlib.Core.Bool.{cond}
+use mathlib.Core.List.{List, [], _∷_}
+use Prim.Native.Nat.{ℕ, _+_, _*_, _≤_, _<_}
+use native.Mathlib.Omega.{arith}
+use lib.Dec.{ltb}
+use borrow.Author.Tests.{lt-ltb, le-ltb}
+use Rattle.xdr.specs.Words.{word, putWords}
+use Rattle.xdr.proofs.Laws.{put-append}
+use Rattle.store.specs.Added.{withRecord, withForced}
+
+module _ (t : List ℕ) (at s : ℕ) {c : ℕ} {t₁ : List ℕ} (r : c ≡ word t at) where
+  pub record-put : (x kind a b : ℕ) {t₂ : List ℕ} → t₁ ≡ putWords t at ((c + 1) ∷ x ∷ s ∷ []) → t₂ ≡ putWords t₁ (at + 3 + 3 * c) (kind ∷ a ∷ b ∷ [])
+      → t₂ ≡ withRecord t at x s kind a b
+  record-put x kind a b h i = rw (i, h, r)
+
+  pub forced-put : (m q k : ℕ) {t₂ t₃ : List ℕ} → t₁ ≡ putWords t at ((c + 2) ∷ m ∷ s ∷ []) → t₂ ≡ putWords t₁ (at + 3 + 3 * c) (2 ∷ m ∷ 0 ∷ [])
+      → t₃ ≡ putWords t₂ (at + 3 + 3 * c + 3) (4 ∷ q ∷ k ∷ []) → t₃ ≡ withForced t at s m q k
+  forced-put m q k {t₂} h i j =
+      j
+      ∙ ap (λ (u : List ℕ). putWords u (at + 3 + 3 * c + 3) (4 ∷ q ∷ k ∷ [])) i
+      ∙ put-append t₁ (at + 3 + 3 * c) (2 ∷ m ∷ 0 ∷ []) (4 ∷ q ∷ k ∷ []) refl
+      ∙ rw (h, r)
+
+-- a receipt that forces, and one that doesn't
+module _ (t : List ℕ) (at m q k : ℕ) {x s : ℕ} {u : List ℕ} (h : x ≡ word t (at + 1)) (i : s ≡ word t (at + 2)) where
+  pub forcing : x < m → u ≡ withForced t at s m q k
+      → (_≡_ {A = ℕ} 1 (cond (ltb (word t (at + 1)) m) 1 0))
+      × (u ≡ cond (ltb (word t (at + 1)) m) (withForced t at (word t (at + 2)) m q k) (withRecord t at (word t (at + 1)) (word t (at + 2)) 4 q k))
+  forcing l e = (rw (← h, lt-ltb x m l), rw (← h, lt-ltb x m l, ← i) e)
+
+  pub not-forcing : m ≤ x → u ≡ withRecord t at x s 4 q k
+      → (_≡_ {A = ℕ} 0 (cond (ltb (word t (at + 1)) m) 1 0))
+      × (u ≡ cond (ltb (word t (at + 1)) m) (withForced t at (word t (at + 2)) m q k) (withRecord t at (word t (at + 1)) (word t (at + 2)) 4 q k))
+  not-forcing l e = (rw (← h, le-ltb x m l), rw (← h, le-ltb x m l, ← i) e)
+
+-- the room that a receipt needs, where c records are used and x is the number
+pub room-forcing : (at c : ℕ) {x m l : ℕ} → 4 * (at + 3 + 3 * (c + cond (ltb x m) 2 1)) ≤ l → x < m → 4 * (at + 9 + 3 * c) ≤ l
+room-forcing at c {x} {m} h g = let k = rw (lt-ltb x m g) at h in omega arith
+
+pub room-not : (at c : ℕ) {x m l : ℕ} → 4 * (at + 3 + 3 * (c + cond (ltb x m) 2 1)) ≤ l → m ≤ x → 4 * (at + 6 + 3 * c) ≤ l
+room-not at c {x} {m} h g = let k = rw (le-ltb x m g) at h in omega arith

@@ -1,0 +1,57 @@
+use Rattle.store.proofs.Puts.{forced-put}
+use borrow.Author.Needs.{needs}
+use Rattle.store.proofs.add_forced.Statement.{statement}
+use Rattle.store.proofs.add_forced.Tie as tie
+
+get-requires : tie.Need-get-requires
+get-requires c κs = search needs
+
+add-w : tie.Need-add-w
+add-w c = search needs
+
+cast-w : tie.Need-cast-w
+cast-w c = search needs
+
+mul-w : tie.Need-mul-w
+mul-w c = search needs
+
+add-w-2 : tie.Need-add-w-2
+add-w-2 c = search needs
+
+add-put-three : tie.Need-add-put-three
+add-put-three c = search needs
+
+put-three-requires : tie.Need-put-three-requires
+put-three-requires c κs = search needs
+
+put-three-requires-2 : tie.Need-put-three-requires-2
+put-three-requires-2 c κs = search needs
+
+add-put-three-2 : tie.Need-add-put-three-2
+add-put-three-2 c = search needs
+
+put-three-requires-3 : tie.Need-put-three-requires-3
+put-three-requires-3 c κs = search needs
+
+same-length : tie.Need-same-length
+same-length c = search needs
+
+returns : tie.Need-returns
+returns c = let a = c .before .before .before .before .before .before .before .before .before .before .before .before .before .before .before .args in forced-put (a .t .now) (a .at) (a .s) (c .before .before .before .before .before .before .before .before .before .before .before .before .get .ensures) (a .m) (a .q) (a .k) (c .before .before .before .before .before .before .before .before .before .before .put-three .ensures) (c .before .before .before .before .before .before .put-three2 .ensures) (c .before .before .put-three3 .ensures)
+
+pub add-forced-spec : {M : Type 1} → statement M
+add-forced-spec =
+    tie.close
+    (tie.spec
+    get-requires
+    add-w
+    cast-w
+    mul-w
+    add-w-2
+    add-put-three
+    put-three-requires
+    put-three-requires-2
+    add-put-three-2
+    put-three-requires-3
+    same-length
+    returns)

@@ -1,0 +1,49 @@
+use Rattle.store.proofs.Puts.{record-put}
+use borrow.Author.Needs.{needs}
+use Rattle.store.proofs.add_record.Statement.{statement}
+use Rattle.store.proofs.add_record.Tie as tie
+
+get-requires : tie.Need-get-requires
+get-requires c κs = search needs
+
+add-put-three : tie.Need-add-put-three
+add-put-three c = search needs
+
+put-three-requires : tie.Need-put-three-requires
+put-three-requires c κs = search needs
+
+add-put-three-2 : tie.Need-add-put-three-2
+add-put-three-2 c = search needs
+
+cast-put-three : tie.Need-cast-put-three
+cast-put-three c = search needs
+
+mul-put-three : tie.Need-mul-put-three
+mul-put-three c = search needs
+
+add-put-three-3 : tie.Need-add-put-three-3
+add-put-three-3 c = search needs
+
+put-three-requires-2 : tie.Need-put-three-requires-2
+put-three-requires-2 c κs = search needs
+
+same-length : tie.Need-same-length
+same-length c = search needs
+
+returns : tie.Need-returns
+returns c = let a = c .before .before .before .before .before .before .before .before .before .before .before .args in record-put (a .t .now) (a .at) (a .s) (c .before .before .before .before .before .before .before .before .get .ensures) (a .x) (a .kind) (a .a) (a .b) (c .before .before .before .before .before .before .put-three .ensures) (c .before .before .put-three2 .ensures)
+
+pub add-record-spec : {M : Type 1} → statement M
+add-record-spec =
+    tie.close
+    (tie.spec
+    get-requires
+    add-put-three
+    put-three-requires
+    add-put-three-2
+    cast-put-three
+    mul-put-three
+    add-put-three-3
+    put-three-requires-2
+    same-length
+    returns)

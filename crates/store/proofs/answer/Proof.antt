@@ -1,0 +1,19 @@
+use Rattle.xdr.proofs.Laws.{two-puts}
+use borrow.Author.Needs.{needs}
+use Rattle.store.proofs.answer.Statement.{statement}
+use Rattle.store.proofs.answer.Tie as tie
+
+put-requires : tie.Need-put-requires
+put-requires c κs = search needs
+
+put-requires-2 : tie.Need-put-requires-2
+put-requires-2 c κs = search needs
+
+same-length : tie.Need-same-length
+same-length c = search needs
+
+returns : tie.Need-returns
+returns c = let a = c .before .before .before .before .before .before .before .before .before .args in two-puts (a .area .now) (a .x) (a .y) (c .before .before .before .before .before .before .put .ensures) (c .before .before .put2 .ensures)
+
+pub answer-spec : {M : Type 1} → statement M
+answer-spec = tie.close (tie.spec put-requires put-requires-2 same-length returns)

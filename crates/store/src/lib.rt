@@ -1,0 +1,55 @@
+// Records added to a section in place, and answers of two words.
+ghost use mathlib.Core.Path.{_≡_};
+ghost use mathlib.Core.Bool.{cond};
+ghost use mathlib.Core.List.{[], _∷_};
+ghost use Prim.Native.Nat.{_+_, _*_, _≤_};
+ghost use lib.Dec.{ltb};
+ghost use lib.ListN.{length};
+ghost use Rattle.xdr.specs.Words.{word, putWords};
+ghost use Rattle.store.specs.Added.{withRecord, withForced};
+
+// One record; x and s are the section's number and count of sends after it.
+pub fn add_record(t: &mut [u8], at: usize, x: u32, s: u32, kind: u32, a: u32, b: u32)
+    requires { ⌜ (at ≤ 65536) × (word (now t) at ≤ 1024) × (4 * (at + 6 + 3 * word (now t) at) ≤ length (now t)) ⌝ }
+    ensures { λ _. ⌜ now (t .exit) ≡ withRecord (now (t .entry)) at x s kind a b ⌝ }
+{
+    let c = xdr::get(t, at);
+    xdr::put_three(t, at, c + 1, x, s);
+    xdr::put_three(t, at + 3 + 3 * (c as usize), kind, a, b);
+}
+
+// A forced checkpoint with number m, then the receipt of (q, k).
+fn add_forced(t: &mut [u8], at: usize, s: u32, m: u32, q: u32, k: u32)
+    requires { ⌜ (at ≤ 65536) × (word (now t) at ≤ 1024) × (4 * (at + 9 + 3 * word (now t) at) ≤ length (now t)) ⌝ }
+    ensures { λ _. ⌜ now (t .exit) ≡ withForced (now (t .entry)) at s m q k ⌝ }
+{
+    let c = xdr::get(t, at);
+    let w = at + 3 + 3 * (c as usize);
+    xdr::put_three(t, at, c + 2, m, s);
+    xdr::put_three(t, w, 2, m, 0);
+    xdr::put_three(t, w + 3, 4, q, k);
+}
+
+// The receipt of (q, k), which carries m; returns 1 if it forces a checkpoint, else 0.
+pub fn add_receipt(t: &mut [u8], at: usize, m: u32, q: u32, k: u32) -> u32
+    requires { ⌜ (at ≤ 65536) × (word (now t) at ≤ 1024) × (4 * (at + 3 + 3 * (word (now t) at + cond (ltb (word (now t) (at + 1)) m) 2 1)) ≤ length (now t)) ⌝ }
+    ensures { λ r. ⌜ (r ≡ cond (ltb (word (now (t .entry)) (at + 1)) m) 1 0) × (now (t .exit) ≡ cond (ltb (word (now (t .entry)) (at + 1)) m) (withForced (now (t .entry)) at (word (now (t .entry)) (at + 2)) m q k) (withRecord (now (t .entry)) at (word (now (t .entry)) (at + 1)) (word (now (t .entry)) (at + 2)) 4 q k)) ⌝ }
+{
+    let x = xdr::get(t, at + 1);
+    let s = xdr::get(t, at + 2);
+    if x < m {
+        add_forced(t, at, s, m, q, k);
+        return 1;
+    }
+    add_record(t, at, x, s, 4, q, k);
+    0
+}
+
+// Writes an answer of two words.
+pub fn answer(area: &mut [u8], x: u32, y: u32)
+    requires { ⌜ length (now area) ≡ 8 ⌝ }
+    ensures { λ _. ⌜ now (area .exit) ≡ putWords (now (area .entry)) 0 (x ∷ y ∷ []) ⌝ }
+{
+    xdr::put(area, 0, x);
+    xdr::put(area, 1, y);
+}

@@ -1,0 +1,124 @@
+-- Laws of a history's number, sends and messages: what later records leave as it was.
+use mathlib.Core.Path.{_≡_, refl, _∙_}
+use mathlib.Core.Bool.{Bool, true, false, _&&_, and-eq-true-iff}
+use mathlib.Core.List.{[], _∷_}
+use Prim.Native.Nat.{ℕ, suc, _≤_, _<_}
+use native.Mathlib.Nat.{le-refl, le-trans}
+use native.Mathlib.Omega.{arith}
+use lib.Dec.{leb, ltb, eqb}
+use borrow.Author.Tests.{ltb-true, leb-true, eqb-true, eqb-false, lt-ltb, le-leb, eq-eqb, ne-eqb}
+use Rattle.rules.specs.Records.{Event, basic, forced, sent, received, History, number, sends, carried, destination, hasSend}
+use Rattle.theorems.proofs.Older.{Older, same, newer}
+
+-- what a test came to, with the equation
+pub data Test (b : Bool) : Type 0 where
+  passes : b ≡ true → Test b
+  fails : b ≡ false → Test b
+
+pub test : (b : Bool) → Test b
+test true = passes refl
+test false = fails refl
+
+-- ---- sends
+
+sends-cons : (e : Event) (h : History) → sends h ≤ sends (e ∷ h)
+sends-cons (basic m) h = le-refl (sends h)
+sends-cons (forced m) h = le-refl (sends h)
+sends-cons (sent q) h = omega arith
+sends-cons (received q k) h = le-refl (sends h)
+
+pub sends-older : {h g : History} → Older h g → sends h ≤ sends g
+sends-older {h} same = le-refl (sends h)
+sends-older (newer {e} {g} o) = le-trans (sends-older o) (sends-cons e g)
+
+carried-cons : (e : Event) (h : History) (k : ℕ) → k ≤ sends h → carried (e ∷ h) k ≡ carried h k
+carried-cons (basic m) h k le = refl
+carried-cons (forced m) h k le = refl
+carried-cons (sent q) h k le = rw (ne-eqb k (suc (sends h)) (omega arith))
+carried-cons (received q j) h k le = refl
+
+-- the number that a send carries stays what it was
+pub carried-older : {h g : History} → Older h g → (k : ℕ) → k ≤ sends h → carried g k ≡ carried h k
+carried-older same k le = refl
+carried-older (newer {e} {g} o) k le = carried-cons e g k (le-trans le (sends-older o)) ∙ carried-older o k le
+
+destination-cons : (e : Event) (h : History) (k : ℕ) → k ≤ sends h → destination (e ∷ h) k ≡ destination h k
+destination-cons (basic m) h k le = refl
+destination-cons (forced m) h k le = refl
+destination-cons (sent q) h k le = rw (ne-eqb k (suc (sends h)) (omega arith))
+destination-cons (received q j) h k le = refl
+
+destination-older : {h g : History} → Older h g → (k : ℕ) → k ≤ sends h → destination g k ≡ destination h k
+destination-older same k le = refl
+destination-older (newer {e} {g} o) k le = destination-cons e g k (le-trans le (sends-older o)) ∙ destination-older o k le
+
+-- ---- a message that is held
+
+pub record Held (h : History) (p k : ℕ) : Type 0 where
+  pub positive : 0 < k
+  pub counted : k ≤ sends h
+  pub to : destination h k ≡ p
+
+pub holds-held : (h : History) (p k : ℕ) → hasSend h p k ≡ true → Held h p k
+holds-held h p k e =
+    let a = and-eq-true-iff (ltb 0 k && leb k (sends h)) (eqb (destination h k) p) .0 e in
+    let b = and-eq-true-iff (ltb 0 k) (leb k (sends h)) .0 (a .0) in
+    record { positive = ltb-true 0 k (b .0); counted = leb-true k (sends h) (b .1); to = eqb-true (destination h k) p (a .1) }
+
+pub held-holds : (h : History) (p k : ℕ) → Held h p k → hasSend h p k ≡ true
+held-holds h p k H = rw (lt-ltb 0 k (H .positive), le-leb k (sends h) (H .counted), eq-eqb (destination h k) p (H .to))
+
+-- a send that is held stays held
+pub holds-older : {h g : History} → Older h g → (p k : ℕ) → hasSend h p k ≡ true → hasSend g p k ≡ true
+holds-older {h} {g} o p k e =
+    let H = holds-held h p k e in
+    held-holds g p k (record {
+      positive = H .positive;
+      counted = le-trans (H .counted) (sends-older o);
+      to = destination-older o k (H .counted) ∙ H .to;
+    })
+
+-- ---- the k-th send, with what was before it
+
+pub record SendOf (h : History) (k : ℕ) : Type 0 where
+  pub rest : History
+  pub there : Older (sent (destination h k) ∷ rest) h
+  pub place : k ≡ suc (sends rest)
+  pub carries : carried h k ≡ number rest
+
+abbrev send-later : (e : Event) (h : History) (k : ℕ) → k ≤ sends h → SendOf h k → SendOf (e ∷ h) k
+send-later e h k le S =
+    record {
+      rest = S .rest;
+      there = rw (destination-cons e h k le) (newer (S .there));
+      place = S .place;
+      carries = carried-cons e h k le ∙ S .carries;
+    }
+
+pub send-of : (h : History) (k : ℕ) → 0 < k → k ≤ sends h → SendOf h k
+send-of [] k pos le = absurd (omega arith)
+send-of (basic m ∷ h) k pos le = send-later (basic m) h k le (send-of h k pos le)
+send-of (forced m ∷ h) k pos le = send-later (forced m) h k le (send-of h k pos le)
+send-of (received q j ∷ h) k pos le = send-later (received q j) h k le (send-of h k pos le)
+send-of (sent q ∷ h) k pos le = go (test (eqb k (suc (sends h)))) (send-of h k pos)
+  where
+    go : Test (eqb k (suc (sends h))) → (k ≤ sends h → SendOf h k) → SendOf (sent q ∷ h) k
+    go (passes e) r = record { rest = h; there = rw e same; place = eqb-true k (suc (sends h)) e; carries = rw e }
+    go (fails e) r =
+        let ne = eqb-false k (suc (sends h)) e in
+        let l : k ≤ sends h = omega arith in
+        send-later (sent q) h k l (r l)
+
+-- ---- numbers never fall
+
+abbrev pub Rising : History → Type 0
+Rising [] = Unit {0}
+Rising (e ∷ h) = (number h ≤ number (e ∷ h)) × Rising h
+
+pub rising-older : {h g : History} → Older h g → Rising g → number h ≤ number g
+rising-older {h} same r = le-refl (number h)
+rising-older (newer o) r = le-trans (rising-older o (r .1)) (r .0)
+
+pub rising-part : {h g : History} → Older h g → Rising g → Rising h
+rising-part same r = r
+rising-part (newer o) r = rising-part o (r .1)

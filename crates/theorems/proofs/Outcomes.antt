@@ -1,0 +1,132 @@
+-- What a call may take from the rows that it has passed, and an outcome from its parts.
+use mathlib.Core.Path.{_≡_, refl, sym, ap, _∙_}
+use mathlib.Core.Logic.{_≢_}
+use mathlib.Core.Bool.{Bool, true, false, not}
+use mathlib.Core.List.{List, [], _∷_, _++_}
+use Prim.Native.Nat.{ℕ, zero, suc, _+_, _*_, _≤_, _<_}
+use native.Mathlib.Nat.{le-trans, mul-le-mul, mul-le-mul-right}
+use native.Mathlib.Omega.{arith}
+use lib.Dec.{eqb, leb}
+use lib.ListN.{length, getD}
+use borrow.Author.Tests.{ltb-false, eqb-true, eq-eqb, ne-eqb, not-false}
+use Rattle.xdr.specs.Words.{word, bytes}
+use Rattle.xdr.proofs.Laws.{Bytes}
+use Rattle.rules.specs.Records.{History, history, number, sends}
+use Rattle.rules.specs.Table.{sectionWords, start, recordsAt, decoded}
+use Rattle.rules.specs.Steps.{Call}
+use Rattle.rules.specs.Calls.{areaLength, outcome, Row, row, first, tableRows, laterRows, stepRows, judged}
+use Rattle.theorems.proofs.Steps.{Numbered, none-met, first-append, Accepted, accepted-met}
+use Rattle.theorems.proofs.Laid.{sends-length}
+use Rattle.theorems.proofs.WellLaid.{decoded-at, decoded-words, decoded-short}
+use Rattle.theorems.proofs.OneCall.{split-zero, Whole, whole, table-legal, legal-number}
+
+-- ---- outcomes
+
+pub judged-stop : (t a t′ ws : List ℕ) {r s : ℕ} → r ≡ s → r ≢ 0 → outcome r t a ≡ judged s t a t′ ws
+judged-stop t a t′ ws {r} e ne = rw (← e, ne-eqb r 0 ne)
+
+pub judged-done : (t a t′ ws : List ℕ) {u b : List ℕ} {s : ℕ} → s ≡ 0 → u ≡ t′ → b ≡ bytes ws → outcome 0 u b ≡ judged s t a t′ ws
+judged-done t a t′ ws {s} z x y = rw (eq-eqb s 0 z, x, y)
+
+-- ---- rows
+
+-- rows of which one is met stop a call whatever comes after them
+pub stopped : (rs qs : List Row) {r : ℕ} → Numbered rs → r ≡ first rs → r ≢ 0 → r ≡ first (rs ++ qs)
+stopped [] qs w e ne = absurd (ne e)
+stopped (row zero m ∷ rs) qs w e ne = absurd w
+stopped (row (suc x) true ∷ rs) qs w e ne = e
+stopped (row (suc x) false ∷ rs) qs w e ne = stopped rs qs w e ne
+
+-- rows of which none is met leave the call to those that come after them
+pub going : (rs qs : List Row) {r : ℕ} → Numbered rs → r ≡ first rs → r ≡ 0 → first (rs ++ qs) ≡ first qs
+going rs qs w e z = first-append rs qs (none-met rs w (sym e ∙ z))
+
+-- ---- a table that meets none of its own rows
+
+pub long : (t : List ℕ) {r : ℕ} → r ≡ first (tableRows t) → r ≡ 0 → 8 ≤ length t
+long t e z = ltb-false (length t) 8 (none-met (tableRows t) tt (sym e ∙ z) .0)
+
+pub unstopped : (t : List ℕ) → Bytes t → {r : ℕ} → r ≡ first (tableRows t) → r ≡ 0 → Whole t
+unstopped t b e z = whole t b (none-met (tableRows t) tt (sym e ∙ z))
+
+-- of a process p below n, whose section starts at word `at`: the section lies in the table, and its words are those of p's history
+pub record Head (t : List ℕ) (p E at : ℕ) : Type 0 where
+  pub inside : 4 * (at + 3 + 3 * E) ≤ length t
+  pub near : at ≤ 65536
+  pub most : E ≤ 1024
+  pub count : word t at ≡ length (history (decoded t) p)
+  pub current : word t (at + 1) ≡ number (history (decoded t) p)
+  pub sent : word t (at + 2) ≡ sends (history (decoded t) p)
+  pub events : recordsAt (word t) (at + 3) (word t at) ≡ history (decoded t) p
+  pub short : word t at ≤ E
+  pub low : word t (at + 1) ≤ 16384
+  pub few : word t (at + 2) ≤ 1024
+
+pub head : (t : List ℕ) → Whole t → (p : ℕ) → p < word t 0 → {E at : ℕ} → E ≡ word t 1 → at ≡ start E p → Head t p E at
+head t W p lt {E} {at} e s = rw (s, e) here
+  where
+    n : ℕ
+    n = word t 0
+
+    F : ℕ
+    F = word t 1
+
+    h : History
+    h = history (decoded t) p
+
+    a : (j : ℕ) → j < length (sectionWords F h) → word t (start F p + j) ≡ getD (sectionWords F h) j 0
+    a = decoded-words n F t (W .is) p lt
+
+    count : word t (start F p) ≡ length h
+    count = ap (word t) (let z : start F p ≡ start F p + 0 = omega arith in z) ∙ a 0 (omega arith)
+
+    here : Head t p F (start F p)
+    here =
+        let m = mul-le-mul-right {m = p + 1} {n = n} (3 * (F + 1)) (omega arith) in
+        let l = W .is .whole in
+        let r = W .range .records in
+        let g = W .range .processes in
+        let b = mul-le-mul {n₁ = n} {m₁ = F} {n₂ = 16} {m₂ = 1024} g r in
+        let d = mul-le-mul {n₁ = p} {m₁ = 3 * (F + 1)} {n₂ = 16} {m₂ = 3075} (omega arith) (omega arith) in
+        let k = sends-length h in
+        let y = decoded-short n F t (W .is) p in
+        let x = a 1 (omega arith) in
+        let z = a 2 (omega arith) in
+        let c = count in
+        let low = le-trans (legal-number n F p h (table-legal n F t (W .is) p)) b in
+        record {
+          inside = omega arith;
+          near = omega arith;
+          most = r;
+          count = c;
+          current = x;
+          sent = z;
+          events = sym (decoded-at n F t (W .is) p lt);
+          short = omega arith;
+          low = omega arith;
+          few = omega arith;
+        }
+
+-- ---- a step that meets no row
+
+pub first-unmet : (r : ℕ) (b : Bool) (rs : List Row) → first (row (suc r) b ∷ rs) ≡ 0 → b ≡ false
+first-unmet r true rs e = absurd (omega arith)
+first-unmet r false rs e = refl
+
+pub record Passed (t : List ℕ) (p : ℕ) (call : Call) (len : ℕ) : Type 0 where
+  pub table : Whole t
+  pub accepted : Accepted (word t 0) (word t 1) (decoded t) p call
+  pub area : len ≡ areaLength call
+
+pub passed : (t : List ℕ) → Bytes t → (p : ℕ) (call : Call) (len : ℕ)
+    → first (tableRows t ++ stepRows (word t 0) (word t 1) (decoded t) p call len) ≡ 0 → Passed t p call len
+passed t b p call len e =
+    let n = word t 0 in
+    let E = word t 1 in
+    let s = decoded t in
+    let z = split-zero (tableRows t) (stepRows n E s p call len) tt e in
+    record {
+      table = whole t b (z .0);
+      accepted = accepted-met n E s p call len (z .1);
+      area = eqb-true len (areaLength call) (not-false (eqb len (areaLength call)) (first-unmet 3 (not (eqb len (areaLength call))) (row 5 (leb n p) ∷ laterRows n E s p call) (z .1)));
+    }

@@ -1,0 +1,265 @@
+-- A well laid table is the layout of the records that it hasSend; and how a section's words change when a record is added.
+use mathlib.Core.Path.{_≡_, refl, sym, ap, _∙_, subst}
+use mathlib.Core.Logic.{_⊎_, inl, inr}
+use mathlib.Core.Bool.{Bool, true, false, not, _&&_, and-eq-true-iff}
+use mathlib.Core.List.{List, [], _∷_, _++_, append-nil, append-assoc}
+use Prim.Native.Nat.{ℕ, zero, suc, _+_, _-_, _*_, _≤_, _<_, zero-le}
+use native.Mathlib.Nat.{zero-add, not-suc-le-zero, le-of-suc-le-suc}
+use native.Mathlib.Omega.{arith}
+use native.Mathlib.Decide.{decLt}
+use lib.Dec.{leb, ltb, eqb}
+use lib.ListN.{length, replicate, length-append, length-replicate, getD-replicate}
+use borrow.Author.Tests.{eqb-true, leb-true}
+use Rattle.rules.specs.Records.{Event, History, State, history, number, sends}
+use Rattle.xdr.specs.Words.{word, bytes}
+use Rattle.rules.specs.Table.{recordWords, usedWords, sectionWords, sectionsWords, layout, eventOf, recordsAt, start, sectionAt, sectionsFrom, recordOk, recordsOk, zerosAt, sectionOk, sectionsOk, decoded, size}
+use Rattle.theorems.proofs.Histories.{Test, passes, fails, test}
+use Rattle.xdr.proofs.Laws.{Bytes, bytes-of}
+use Rattle.theorems.proofs.Words.{At, at-left, at-right, at-append}
+use Rattle.theorems.proofs.Laid.{record-length, used-length, section-length, next, sections-length}
+
+-- sections one after the other
+pub sections-join : (E : ℕ) (w : ℕ → ℕ) (s : State) (p : ℕ) → ((q : ℕ) → length (history s q) ≤ E)
+    → ((r : ℕ) → r < length s → At w (start E (p + r)) (sectionWords E (history s r))) → At w (start E p) (sectionsWords E s)
+sections-join E w [] p short a = λ j lt. absurd (not-suc-le-zero lt)
+sections-join E w (h ∷ s) p short a =
+    at-append w (start E p) (sectionWords E h) (sectionsWords E s)
+    (subst (λ (i : ℕ). At w (start E i) (sectionWords E h)) (let e : p + 0 ≡ p = omega arith in e) (a 0 (omega arith)))
+    (start E (suc p)) (next E p ∙ ap (λ (x : ℕ). start E p + x) (sym (section-length E h (short 0))))
+    (sections-join E w s (suc p) (λ q. short (suc q))
+    (λ r lt. subst (λ (i : ℕ). At w (start E i) (sectionWords E (history s r))) (let e : p + suc r ≡ suc p + r = omega arith in e) (a (suc r) (omega arith))))
+
+-- bytes whose words are those of a state's sections are the state's table
+pub is-layout : (n E : ℕ) (s : State) (t : List ℕ) → Bytes t → length t ≡ size n E → length s ≡ n → ((q : ℕ) → length (history s q) ≤ E)
+    → word t 0 ≡ n → word t 1 ≡ E → ((p : ℕ) → p < n → At (word t) (start E p) (sectionWords E (history s p))) → t ≡ layout n E s
+unfolding layout
+is-layout n E s t b l z short first second a =
+    let c : At (word t) (start E 0) (sectionsWords E s) =
+    sections-join E (word t) s 0 short
+    (λ r lt. subst (λ (i : ℕ). At (word t) (start E i) (sectionWords E (history s r))) (sym (zero-add r)) (a r (omega arith)))
+    in
+    let whole : At (word t) 0 (n ∷ E ∷ sectionsWords E s) =
+    at-append (word t) 0 (n ∷ E ∷ []) (sectionsWords E s) two (start E 0) (omega arith) c
+    in
+    let m = sections-length E s short in
+    let m′ : length (sectionsWords E s) ≡ n * (3 * (E + 1)) = m ∙ ap (λ (x : ℕ). x * (3 * (E + 1))) z in
+    bytes-of (n ∷ E ∷ sectionsWords E s) t (omega arith) b (λ i lt. ap (word t) (sym (zero-add i)) ∙ whole i lt)
+  where
+    two : At (word t) 0 (n ∷ E ∷ [])
+    two zero lt = first
+    two (suc zero) lt = second
+    two (suc (suc j)) lt = absurd (omega arith)
+
+-- ---- what the tests of a well laid table say
+
+pub and-left : (a b : Bool) → (a && b) ≡ true → a ≡ true
+and-left a b e = and-eq-true-iff a b .0 e .0
+
+pub and-right : (a b : Bool) → (a && b) ≡ true → b ≡ true
+and-right a b e = and-eq-true-iff a b .0 e .1
+
+pub records-length : (w : ℕ → ℕ) (at i : ℕ) → length (recordsAt w at i) ≡ i
+records-length w at zero = refl
+records-length w at (suc i) = ap suc (records-length w at i)
+
+-- a record that passes its test has the words that it was read from
+record-words : (n E p kind a b : ℕ) (h : History) → recordOk n E p (sends h) kind a b ≡ true → recordWords (eventOf kind a b) h ≡ kind ∷ a ∷ b ∷ []
+record-words n E p kind a b h ok = one (test (eqb kind 1)) (test (eqb kind 2)) (test (eqb kind 3)) (test (eqb kind 4))
+  where
+    one : Test (eqb kind 1) → Test (eqb kind 2) → Test (eqb kind 3) → Test (eqb kind 4) → recordWords (eventOf kind a b) h ≡ kind ∷ a ∷ b ∷ []
+    one (passes e) y z u =
+        let o : (leb a (n * E) && eqb b 0) ≡ true = rw e at ok in
+        rw (eqb-true kind 1 e, eqb-true b 0 (and-right (leb a (n * E)) (eqb b 0) o))
+    one (fails e) (passes y) z u =
+        let o : (leb a (n * E) && eqb b 0) ≡ true = rw (e, y) at ok in
+        rw (eqb-true kind 2 y, eqb-true b 0 (and-right (leb a (n * E)) (eqb b 0) o))
+    one (fails e) (fails y) (passes z) u =
+        let o : (ltb a n && not (eqb a p) && ltb 0 b && leb b E && eqb b (suc (sends h))) ≡ true = rw (e, y, z) at ok in
+        rw (eqb-true kind 3 z, eqb-true b (suc (sends h)) (and-right (ltb a n && not (eqb a p) && ltb 0 b && leb b E) (eqb b (suc (sends h))) o))
+    one (fails e) (fails y) (fails z) (passes u) = rw (eqb-true kind 4 u)
+    one (fails e) (fails y) (fails z) (fails u) =
+        let o : false ≡ true = rw (e, y, z, u) at ok in
+        absurd (let x : _≡_ {A = ℕ} 0 1 = cc in omega arith)
+
+used-of : (n E : ℕ) (w : ℕ → ℕ) (p at i : ℕ) → recordsOk n E w p at i ≡ true → At w at (usedWords (recordsAt w at i))
+used-of n E w p at zero ok = λ j lt. absurd (not-suc-le-zero lt)
+used-of n E w p at (suc i) ok =
+    at-append w at (usedWords h) (recordWords e h)
+    (used-of n E w p at i (and-left (recordsOk n E w p at i) (recordOk n E p (sends h) (w k) (w (k + 1)) (w (k + 2))) ok))
+    k (let l = used-length h in let m = records-length w at i in omega arith)
+    (rw (record-words n E p (w k) (w (k + 1)) (w (k + 2)) h (and-right (recordsOk n E w p at i) (recordOk n E p (sends h) (w k) (w (k + 1)) (w (k + 2))) ok)) three)
+  where
+    h : History
+    h = recordsAt w at i
+
+    k : ℕ
+    k = at + 3 * i
+
+    e : Event
+    e = eventOf (w k) (w (k + 1)) (w (k + 2))
+
+    three : At w k (w k ∷ w (k + 1) ∷ w (k + 2) ∷ [])
+    three zero lt = ap w (omega arith)
+    three (suc zero) lt = refl
+    three (suc (suc zero)) lt = refl
+    three (suc (suc (suc j))) lt = absurd (omega arith)
+
+zeros-of : (w : ℕ → ℕ) (at m : ℕ) → zerosAt w at m ≡ true → (j : ℕ) → j < m → w (at + j) ≡ 0
+zeros-of w at zero ok j lt = absurd (not-suc-le-zero lt)
+zeros-of w at (suc m) ok j lt = go (decLt j m) (zeros-of w at m (and-left (zerosAt w at m) (eqb (w (at + m)) 0) ok) j)
+  where
+    go : Dec (j < m) → (j < m → w (at + j) ≡ 0) → w (at + j) ≡ 0
+    go (yes l) r = r l
+    go (no l) r = ap (λ (k : ℕ). w (at + k)) (let e : j ≡ m = omega arith in e) ∙ eqb-true (w (at + m)) 0 (and-right (zerosAt w at m) (eqb (w (at + m)) 0) ok)
+
+-- a section from its words
+pub section-words : (E : ℕ) (w : ℕ → ℕ) (at : ℕ) (h : History) → length h ≤ E → w at ≡ length h → w (at + 1) ≡ number h → w (at + 2) ≡ sends h
+    → At w (at + 3) (usedWords h) → ((j : ℕ) → j < 3 * (E - length h) → w (at + 3 + 3 * length h + j) ≡ 0) → At w at (sectionWords E h)
+section-words E w at h le a b c used zeros =
+    at-append w at (length h ∷ number h ∷ sends h ∷ []) (usedWords h ++ replicate m 0) three (at + 3) refl
+    (at-append w (at + 3) (usedWords h) (replicate m 0) used (at + 3 + 3 * length h) (let l = used-length h in omega arith)
+    (λ j lt. let lt′ : j < m = subst (λ (x : ℕ). j < x) (length-replicate {A = ℕ} m 0) lt in zeros j lt′ ∙ sym (getD-replicate m j 0 0 lt′)))
+  where
+    m : ℕ
+    m = 3 * (E - length h)
+
+    three : At w at (length h ∷ number h ∷ sends h ∷ [])
+    three zero lt = ap w (omega arith) ∙ a
+    three (suc zero) lt = b
+    three (suc (suc zero)) lt = c
+    three (suc (suc (suc j))) lt = absurd (omega arith)
+
+section-of : (n E : ℕ) (w : ℕ → ℕ) (p : ℕ) → sectionOk n E w p ≡ true → (length (sectionAt w E p) ≤ E) × At w (start E p) (sectionWords E (sectionAt w E p))
+section-of n E w p ok =
+    let at = start E p in
+    let c = w at in
+    let h = recordsAt w (at + 3) c in
+    let t1 = leb c E in
+    let t2 = recordsOk n E w p (at + 3) c in
+    let t3 = eqb (w (at + 1)) (number h) in
+    let t4 = eqb (w (at + 2)) (sends h) in
+    let t5 = zerosAt w (at + 3 + 3 * c) (3 * (E - c)) in
+    let o4 = and-left (t1 && t2 && t3 && t4) t5 ok in
+    let o3 = and-left (t1 && t2 && t3) t4 o4 in
+    let o2 = and-left (t1 && t2) t3 o3 in
+    let l : length h ≡ c = records-length w (at + 3) c in
+    let le : c ≤ E = leb-true c E (and-left t1 t2 o2) in
+    let le′ : length h ≤ E = omega arith in (
+      le′,
+      section-words E w at h le′ (sym l)
+          (eqb-true (w (at + 1)) (number h) (and-right (t1 && t2) t3 o3))
+          (eqb-true (w (at + 2)) (sends h) (and-right (t1 && t2 && t3) t4 o4))
+          (used-of n E w p (at + 3) c (and-right t1 t2 o2))
+          (rw l (zeros-of w (at + 3 + 3 * c) (3 * (E - c)) (and-right (t1 && t2 && t3 && t4) t5 ok))),
+    )
+
+pub sections-each : (n E : ℕ) (w : ℕ → ℕ) (m : ℕ) → sectionsOk n E w m ≡ true → (p : ℕ) → p < m → sectionOk n E w p ≡ true
+sections-each n E w zero ok p lt = absurd (not-suc-le-zero lt)
+sections-each n E w (suc m) ok p lt = go (decLt p m) (sections-each n E w m (and-left (sectionsOk n E w m) (sectionOk n E w m) ok) p)
+  where
+    go : Dec (p < m) → (p < m → sectionOk n E w p ≡ true) → sectionOk n E w p ≡ true
+    go (yes l) r = r l
+    go (no l) r = ap (sectionOk n E w) (let e : p ≡ m = omega arith in e) ∙ and-right (sectionsOk n E w m) (sectionOk n E w m) ok
+
+from-length : (w : ℕ → ℕ) (E p m : ℕ) → length (sectionsFrom w E p m) ≡ m
+from-length w E p zero = refl
+from-length w E p (suc m) = ap suc (from-length w E (suc p) m)
+
+from-at : (w : ℕ → ℕ) (E p m r : ℕ) → r < m → history (sectionsFrom w E p m) r ≡ sectionAt w E (p + r)
+from-at w E p zero r lt = absurd (not-suc-le-zero lt)
+from-at w E p (suc m) zero lt = ap (sectionAt w E) (let e : p ≡ p + 0 = omega arith in e)
+from-at w E p (suc m) (suc r) lt = from-at w E (suc p) m r (le-of-suc-le-suc lt) ∙ ap (sectionAt w E) (let e : suc p + r ≡ p + suc r = omega arith in e)
+
+pub from-beyond : (w : ℕ → ℕ) (E p m r : ℕ) → m ≤ r → history (sectionsFrom w E p m) r ≡ []
+from-beyond w E p zero r le = refl
+from-beyond w E p (suc m) zero le = absurd (omega arith)
+from-beyond w E p (suc m) (suc r) le = from-beyond w E (suc p) m r (le-of-suc-le-suc le)
+
+-- ---- a well laid table
+
+pub record IsTable (n E : ℕ) (t : List ℕ) : Type 0 where
+  pub bytes : Bytes t
+  pub whole : length t ≡ size n E
+  pub first : word t 0 ≡ n
+  pub second : word t 1 ≡ E
+  pub laid : sectionsOk n E (word t) n ≡ true
+
+module _ (n E : ℕ) (t : List ℕ) (T : IsTable n E t) where
+  pub decoded-is : decoded t ≡ sectionsFrom (word t) E 0 n
+  unfolding decoded
+  decoded-is = rw (T .first, T .second)
+
+  pub decoded-at : (p : ℕ) → p < n → history (decoded t) p ≡ sectionAt (word t) E p
+  decoded-at p lt = rw decoded-is (from-at (word t) E 0 n p lt ∙ ap (sectionAt (word t) E) (zero-add p))
+
+  pub decoded-length : length (decoded t) ≡ n
+  decoded-length = rw decoded-is (from-length (word t) E 0 n)
+
+  -- each section's words are those of the history that is read from it
+  pub decoded-words : (p : ℕ) → p < n → At (word t) (start E p) (sectionWords E (history (decoded t) p))
+  decoded-words p lt =
+      subst (λ (h : History). At (word t) (start E p) (sectionWords E h)) (sym (decoded-at p lt)) (section-of n E (word t) p (sections-each n E (word t) n (T .laid) p lt) .1)
+
+  pub decoded-short : (p : ℕ) → length (history (decoded t) p) ≤ E
+  decoded-short p = go (decLt p n)
+    where
+      go : Dec (p < n) → length (history (decoded t) p) ≤ E
+      go (yes lt) = rw (decoded-at p lt) (section-of n E (word t) p (sections-each n E (word t) n (T .laid) p lt) .0)
+      go (no l) = rw (decoded-is, from-beyond (word t) E 0 n p (omega arith)) zero-le
+
+  pub decoded-layout : t ≡ layout n E (decoded t)
+  decoded-layout = is-layout n E (decoded t) t (T .bytes) (T .whole) decoded-length decoded-short (T .first) (T .second) decoded-words
+
+-- ---- more records
+
+-- the words of records es, the newest first, that come after those of h
+abbrev pub addedWords : List Event → History → List ℕ
+addedWords [] h = []
+addedWords (e ∷ es) h = addedWords es h ++ recordWords e (es ++ h)
+
+used-append : (es h : History) → usedWords (es ++ h) ≡ usedWords h ++ addedWords es h
+used-append [] h = sym (append-nil (usedWords h))
+used-append (e ∷ es) h =
+    ap (λ (x : List ℕ). x ++ recordWords e (es ++ h)) (used-append es h) ∙ append-assoc (usedWords h) (addedWords es h) (recordWords e (es ++ h))
+
+pub added-length : (es h : History) → length (addedWords es h) ≡ 3 * length es
+added-length [] h = refl
+added-length (e ∷ es) h =
+    length-append (addedWords es h) (recordWords e (es ++ h)) ∙ (let a = added-length es h in let b = record-length e (es ++ h) in omega arith)
+
+-- The words of a section after more records, from those before: only the three at the section's start and those of the records change.
+pub section-grown : (E : ℕ) (w v : ℕ → ℕ) (at : ℕ) (h es : History) → length es + length h ≤ E → At w at (sectionWords E h)
+    → v at ≡ length es + length h → v (at + 1) ≡ number (es ++ h) → v (at + 2) ≡ sends (es ++ h)
+    → At v (at + 3 + 3 * length h) (addedWords es h)
+    → ((i : ℕ) → at + 3 ≤ i → (i < at + 3 + 3 * length h) ⊎ (at + 3 + 3 * length h + 3 * length es ≤ i) → v i ≡ w i)
+    → At v at (sectionWords E (es ++ h))
+section-grown E w v at h es le a x y z added same =
+    section-words E v at (es ++ h) (let l = total in omega arith) (x ∙ sym total) y z
+    (subst (At v (at + 3)) (sym (used-append es h))
+    (at-append v (at + 3) (usedWords h) (addedWords es h)
+    (λ j l. same (at + 3 + j) (omega arith) (inl (let u = used-length h in omega arith)) ∙ used j l)
+    (at + 3 + 3 * length h) (let u = used-length h in omega arith) added))
+    (λ j l. same (at + 3 + 3 * length (es ++ h) + j) (omega arith) (inr (let u = total in omega arith)) ∙ zeros j l)
+  where
+    total : length (es ++ h) ≡ length es + length h
+    total = length-append es h
+
+    m : ℕ
+    m = 3 * (E - length h)
+
+    rest : At w (at + 3) (usedWords h ++ replicate m 0)
+    rest = at-right w at (length h ∷ number h ∷ sends h ∷ []) (usedWords h ++ replicate m 0) a (at + 3) refl
+
+    used : At w (at + 3) (usedWords h)
+    used = at-left w (at + 3) (usedWords h) (replicate m 0) rest
+
+    after : At w (at + 3 + 3 * length h) (replicate m 0)
+    after = at-right w (at + 3) (usedWords h) (replicate m 0) rest (at + 3 + 3 * length h) (let u = used-length h in omega arith)
+
+    zeros : (j : ℕ) → j < 3 * (E - length (es ++ h)) → w (at + 3 + 3 * length (es ++ h) + j) ≡ 0
+    zeros j l =
+        let u = total in
+        let i = j + 3 * length es in
+        let k : i < m = omega arith in
+        let k′ : i < length (replicate {A = ℕ} m 0) = subst (λ (x : ℕ). i < x) (sym (length-replicate {A = ℕ} m 0)) k in
+        ap w (let e : at + 3 + 3 * length (es ++ h) + j ≡ at + 3 + 3 * length h + i = omega arith in e) ∙ after i k′ ∙ getD-replicate m i 0 0 k

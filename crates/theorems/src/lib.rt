@@ -1,0 +1,1 @@
+// What follows from the rules: theorems and laws in proofs/. This crate has no code.
