@@ -17,7 +17,7 @@ use Rattle.rules.specs.Steps.{Call, checkpoint, send, receipt, carries, added, 
 use Rattle.rules.specs.Calls.{outcome, areaLength, needed, answer, stepOn}
 use Rattle.theorems.proofs.Stores.{stored}
 use Rattle.theorems.proofs.OneCall.{step-stores}
-use Rattle.theorems.proofs.Outcomes.{judged-stop, judged-done, Head, head, Passed, passed}
+use Rattle.theorems.proofs.Outcomes.{judged-stop, judged-done, Head, head, carried-low, Passed, passed}
 use Rattle.rows.specs.Rows.{stepRow}
 use Rattle.store.specs.Added.{withRecord, withForced}
 
@@ -110,13 +110,16 @@ module _ (t a : List ℕ) (bt : Bytes t) (ba : Bytes a) (p : ℕ) {E at x s : �
       (v ∙ one-stored t p h (sent q) at-start (H .count) (f ∙ H .current) n (rw n)) w
 
 pub receipt-done : (t a : List ℕ) → Bytes t → Bytes a → (p q k : ℕ) {r E at m y : ℕ} {u b : List ℕ} → E ≡ word t 1 → at ≡ start E p
-    → r ≡ stepRow t p (receipt q k) (length a) → r ≡ 0 → m ≡ carried (history (decoded t) q) k → m < 4294967296
+    → r ≡ stepRow t p (receipt q k) (length a) → r ≡ 0 → m ≡ carried (history (decoded t) q) k
     → y ≡ cond (ltb (word t (at + 1)) m) 1 0
     → u ≡ cond (ltb (word t (at + 1)) m) (withForced t at (word t (at + 2)) m q k) (withRecord t at (word t (at + 1)) (word t (at + 2)) 4 q k)
     → b ≡ putWords a 0 (m ∷ y ∷ []) → outcome 0 u b ≡ stepOn t a p (receipt q k)
-receipt-done t a bt ba p q k {E} {at} {m} {y} i j e z c fits n v w =
+receipt-done t a bt ba p q k {E} {at} {m} {y} i j e z c n v w =
+    let W = clear t a bt p (receipt q k) e z .table in
     let H = ready t a bt p (receipt q k) e z i j .own in
     let h = history (decoded t) p in
+    let low = carried-low t W q k in
+    let fits : m < 4294967296 = omega arith in
     accepted t a bt ba p (receipt q k) e z (m ∷ y ∷ []) (fits, (small (ltb (word t (at + 1)) m) n, tt)) refl (rw (n, H .current, c))
     (v ∙ receipt-stored t p h m q k (rw (← i) j) (H .count) (H .current) (H .sent) ∙ rw c) w
   where

@@ -11,14 +11,14 @@ use lib.ListN.{length, getD}
 use borrow.Author.Tests.{ltb-false, eqb-true, eq-eqb, ne-eqb, not-false}
 use Rattle.xdr.specs.Words.{word, bytes}
 use Rattle.xdr.proofs.Laws.{Bytes}
-use Rattle.rules.specs.Records.{History, history, number, sends}
+use Rattle.rules.specs.Records.{History, history, number, sends, carried}
 use Rattle.rules.specs.Table.{sectionWords, start, recordsAt, decoded}
 use Rattle.rules.specs.Steps.{Call}
 use Rattle.rules.specs.Calls.{areaLength, outcome, Row, row, first, tableRows, laterRows, stepRows, judged}
 use Rattle.theorems.proofs.Steps.{Numbered, none-met, first-append, Accepted, accepted-met}
 use Rattle.theorems.proofs.Laid.{sends-length}
 use Rattle.theorems.proofs.WellLaid.{decoded-at, decoded-words, decoded-short}
-use Rattle.theorems.proofs.OneCall.{split-zero, Whole, whole, table-legal, legal-number}
+use Rattle.theorems.proofs.OneCall.{split-zero, Whole, whole, table-legal, legal-number, legal-carried}
 
 -- ---- outcomes
 
@@ -106,6 +106,12 @@ head t W p lt {E} {at} e s = rw (s, e) here
           low = omega arith;
           few = omega arith;
         }
+
+-- what a message carries
+pub carried-low : (t : List ℕ) → Whole t → (q k : ℕ) → carried (history (decoded t) q) k ≤ 16384
+carried-low t W q k =
+    le-trans (legal-carried (word t 0) (word t 1) q (history (decoded t) q) k (table-legal (word t 0) (word t 1) t (W .is) q))
+    (mul-le-mul (W .range .processes) (W .range .records))
 
 -- ---- a step that meets no row
 

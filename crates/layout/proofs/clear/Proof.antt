@@ -28,13 +28,20 @@ loop-less : tie.Need-loop-less Inv-loop μ-loop
 loop-less c = search needs
 
 loop-again : tie.Need-loop-again Inv-loop μ-loop
-loop-again c = (ap (λ l. set l (c .before .loop .i) 0) (c .before .loop .inv .0) ∙ fill-more (c .before .loop .i) 0 (c .before .before .args .t .now) (omega arith), simp length-set (omega arith), omega arith)
+loop-again c = (
+  ap (λ l. set l (c .before .loop .i) 0) (c .before .loop .inv .0) ∙ fill-more (c .before .loop .i) 0
+      (c .before .before .args .t .now) (omega arith),
+  simp length-set (omega arith),
+  omega arith,
+)
 
 same-length : tie.Need-same-length Inv-loop μ-loop
 same-length c = search needs
 
 returns : tie.Need-returns Inv-loop μ-loop
-returns c = let h : c .before .loop .i ≡ length (c .before .before .args .t .now) = omega arith in c .before .loop .inv .0 ∙ rw (h, drop-length, append-nil)
+returns c =
+    let h : c .before .loop .i ≡ length (c .before .before .args .t .now) = omega arith in
+    c .before .loop .inv .0 ∙ rw (h, drop-length, append-nil)
 
 pub clear-spec : {M : Type 1} → statement M
 clear-spec =

@@ -12,13 +12,27 @@ in-range-requires : tie.Need-in-range-requires
 in-range-requires c κs = search needs
 
 returns : tie.Need-returns
-returns c = let a = c .before .before .before .args in fresh-range (a .t .now) (a .n) (a .e) (sym (c .before .in-range .ensures) ∙ not-true (c .before .in-range .result) (c .if1 .taken))
+returns c =
+    let c3 = c .before .before .before in
+    let a = c3 .args in
+    fresh-range (a .t .now) (a .n) (a .e)
+    (sym (c .before .in-range .ensures) ∙ not-true (c .before .in-range .result) (c .if1 .taken))
 
 table-size-requires : tie.Need-table-size-requires
-table-size-requires c κs = let a = c .before .before .before .args in let d = in-range (a .n) (a .e) (sym (c .before .in-range .ensures) ∙ not-false (c .before .in-range .result) (c .if1 .left)) in omega arith
+table-size-requires c κs =
+    let c3 = c .before .before .before in
+    let a = c3 .args in
+    let d = in-range (a .n) (a .e) (sym (c .before .in-range .ensures) ∙ not-false (c .before .in-range .result) (c .if1 .left)) in
+    omega arith
 
 returns-2 : tie.Need-returns-2
-returns-2 c = let a = c .before .before .before .before .before .args in fresh-size (a .t .now) (a .n) (a .e) (sym (c .before .before .before .in-range .ensures) ∙ not-false (c .before .before .before .in-range .result) (c .before .before .if1 .left)) (λ z. c .if2 .taken (z ∙ sym (c .before .table-size .ensures)))
+returns-2 c =
+    let c3 = c .before .before .before in
+    let c5 = c3 .before .before in
+    let a = c5 .args in
+    fresh-size (a .t .now) (a .n) (a .e)
+    (sym (c3 .in-range .ensures) ∙ not-false (c3 .in-range .result) (c .before .before .if1 .left))
+    (λ z. c .if2 .taken (z ∙ sym (c .before .table-size .ensures)))
 
 clear-requires : tie.Need-clear-requires
 clear-requires c κs = search needs
@@ -33,7 +47,18 @@ same-length : tie.Need-same-length
 same-length c = search needs
 
 returns-3 : tie.Need-returns-3
-returns-3 c = let a = c .before .before .before .before .before .before .before .before .before .before .before .before .before .before .before .before .before .args in fresh-done (a .t .now) (a .n) (a .e) (sym (c .before .before .before .before .before .before .before .before .before .before .before .before .before .before .before .in-range .ensures) ∙ not-false (c .before .before .before .before .before .before .before .before .before .before .before .before .before .before .before .in-range .result) (c .before .before .before .before .before .before .before .before .before .before .before .before .before .before .if1 .left)) (c .before .before .before .before .before .before .before .before .before .before .before .before .if2 .left ∙ c .before .before .before .before .before .before .before .before .before .before .before .before .before .table-size .ensures) (c .before .before .before .before .before .before .before .before .before .before .clear .ensures) (two-puts (c .before .before .before .before .before .before .before .before .before .before .clear .last .0) (a .n) (a .e) (c .before .before .before .before .before .before .put .ensures) (c .before .before .put2 .ensures))
+returns-3 c =
+    let c6 = c .before .before .before .before .before .before in
+    let c10 = c6 .before .before .before .before in
+    let c12 = c10 .before .before in
+    let c13 = c12 .before in
+    let c14 = c13 .before in
+    let c15 = c14 .before in
+    let c17 = c15 .before .before in
+    let a = c17 .args in
+    fresh-done (a .t .now) (a .n) (a .e) (sym (c15 .in-range .ensures) ∙ not-false (c15 .in-range .result) (c14 .if1 .left))
+    (c12 .if2 .left ∙ c13 .table-size .ensures) (c10 .clear .ensures)
+    (two-puts (c10 .clear .last .0) (a .n) (a .e) (c6 .put .ensures) (c .before .before .put2 .ensures))
 
 pub fresh-spec : {M : Type 1} → statement M
 fresh-spec =

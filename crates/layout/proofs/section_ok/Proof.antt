@@ -12,8 +12,10 @@ size-requires c κs = search needs
 
 returns : tie.Need-returns
 returns c =
-    let a = c .before .before .before .before .args in
-    section-over (a .n) (a .e) (a .p) (word (a .t .now)) (c .before .before .start .ensures .0) (c .before .size .ensures .0) (c .if1 .taken)
+    let c4 = c .before .before .before .before in
+    let a = c4 .args in
+    section-over (a .n) (a .e) (a .p) (word (a .t .now)) (c .before .before .start .ensures .0) (c .before .size .ensures .0)
+    (c .if1 .taken)
 
 add-used : tie.Need-add-used
 add-used c = search needs
@@ -50,11 +52,13 @@ zeros-requires c κs = search needs
 
 returns-2 : tie.Need-returns-2
 returns-2 c =
-    let u = c .before .before .before .before .before .before in
+    let c5 = c .before .before .before .before .before in
+    let c6 = c5 .before in
+    let u = c6 in
     let a = u .before .before .before .before .before .args in
-    section-fold (a .n) (a .e) (a .p) (word (a .t .now)) (u .before .before .before .start .ensures .0) (u .before .before .size .ensures .0)
-    (u .before .if1 .left) (u .used .ensures .0) (u .used .ensures .1) (u .used .ensures .2)
-    (c .before .before .before .before .before .size2 .ensures .0) (c .before .before .size3 .ensures .0) (c .zeros .ensures)
+    section-fold (a .n) (a .e) (a .p) (word (a .t .now)) (u .before .before .before .start .ensures .0)
+    (u .before .before .size .ensures .0) (u .before .if1 .left) (u .used .ensures .0) (u .used .ensures .1) (u .used .ensures .2)
+    (c5 .size2 .ensures .0) (c .before .before .size3 .ensures .0) (c .zeros .ensures)
 
 pub section-ok-spec : {M : Type 1} → statement M
 section-ok-spec =

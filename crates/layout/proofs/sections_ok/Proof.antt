@@ -19,7 +19,11 @@ loop-holds : tie.Need-loop-holds Inv-loop μ-loop
 loop-holds c = (refl, search needs)
 
 section-ok-requires : tie.Need-section-ok-requires Inv-loop μ-loop
-section-ok-requires c κs = let a = c .before .before .before .args in let m = mul-le-mul-right {m = c .before .loop .p + 1} {n = a .n} (3 * (a .e + 1)) (omega arith) in omega arith
+section-ok-requires c κs =
+    let c3 = c .before .before .before in
+    let a = c3 .args in
+    let m = mul-le-mul-right {m = c .before .loop .p + 1} {n = a .n} (3 * (a .e + 1)) (omega arith) in
+    omega arith
 
 add-p : tie.Need-add-p Inv-loop μ-loop
 add-p c = search needs

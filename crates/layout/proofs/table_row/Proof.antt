@@ -21,45 +21,82 @@ in-range-requires c κs = search needs
 
 returns-2 : tie.Need-returns-2
 returns-2 c =
-    let a = c .before .before .before .before .before .before .args in
+    let c3 = c .before .before .before in
+    let c4 = c3 .before in
+    let c6 = c4 .before .before in
+    let a = c6 .args in
     let t = a .t .now in
-    let l = c .before .before .before .before .if1 .left in
-    let x = c .before .before .before .size .ensures .0 in
+    let l = c4 .if1 .left in
+    let x = c3 .size .ensures .0 in
     let y = c .before .before .size2 .ensures .0 in
     row-range t l x y (sym (c .before .in-range .ensures) ∙ not-true (c .before .in-range .result) (c .if2 .taken))
 
 table-size-requires : tie.Need-table-size-requires
-table-size-requires c κs = let d = in-range (c .before .before .before .size .result) (c .before .before .size2 .result) (sym (c .before .in-range .ensures) ∙ not-false (c .before .in-range .result) (c .if2 .left)) in omega arith
+table-size-requires c κs =
+    let c3 = c .before .before .before in
+    let d = in-range (c3 .size .result) (c .before .before .size2 .result)
+    (sym (c .before .in-range .ensures) ∙ not-false (c .before .in-range .result) (c .if2 .left)) in
+    omega arith
 
 returns-3 : tie.Need-returns-3
 returns-3 c =
-    let a = c .before .before .before .before .before .before .before .before .args in
+    let c3 = c .before .before .before in
+    let c4 = c3 .before in
+    let c5 = c4 .before in
+    let c6 = c5 .before in
+    let c8 = c6 .before .before in
+    let a = c8 .args in
     let t = a .t .now in
-    let l = c .before .before .before .before .before .before .if1 .left in
-    let x = c .before .before .before .before .before .size .ensures .0 in
-    let y = c .before .before .before .before .size2 .ensures .0 in
-    row-size t l x y (sym (c .before .before .before .in-range .ensures) ∙ not-false (c .before .before .before .in-range .result) (c .before .before .if2 .left)) (λ z. c .if3 .taken (z ∙ sym (c .before .table-size .ensures)))
+    let l = c6 .if1 .left in
+    let x = c5 .size .ensures .0 in
+    let y = c4 .size2 .ensures .0 in
+    row-size t l x y (sym (c3 .in-range .ensures) ∙ not-false (c3 .in-range .result) (c .before .before .if2 .left))
+    (λ z. c .if3 .taken (z ∙ sym (c .before .table-size .ensures)))
 
 sections-ok-requires : tie.Need-sections-ok-requires
-sections-ok-requires c κs = let d = in-range (c .before .before .before .before .before .size .result) (c .before .before .before .before .size2 .result) (sym (c .before .before .before .in-range .ensures) ∙ not-false (c .before .before .before .in-range .result) (c .before .before .if2 .left)) in omega arith
+sections-ok-requires c κs =
+    let c3 = c .before .before .before in
+    let c4 = c3 .before in
+    let c5 = c4 .before in
+    let d = in-range (c5 .size .result)
+    (c4 .size2 .result) (sym (c3 .in-range .ensures) ∙ not-false (c3 .in-range .result) (c .before .before .if2 .left)) in
+    omega arith
 
 returns-4 : tie.Need-returns-4
 returns-4 c =
-    let a = c .before .before .before .before .before .before .before .before .before .before .args in
+    let c3 = c .before .before .before in
+    let c4 = c3 .before in
+    let c5 = c4 .before in
+    let c6 = c5 .before in
+    let c7 = c6 .before in
+    let c8 = c7 .before in
+    let c10 = c8 .before .before in
+    let a = c10 .args in
     let t = a .t .now in
-    let l = c .before .before .before .before .before .before .before .before .if1 .left in
-    let x = c .before .before .before .before .before .before .before .size .ensures .0 in
-    let y = c .before .before .before .before .before .before .size2 .ensures .0 in
-    row-laid t l x y (sym (c .before .before .before .before .before .in-range .ensures) ∙ not-false (c .before .before .before .before .before .in-range .result) (c .before .before .before .before .if2 .left)) (c .before .before .if3 .left ∙ c .before .before .before .table-size .ensures) (sym (c .before .sections-ok .ensures) ∙ not-true (c .before .sections-ok .result) (c .if4 .taken))
+    let l = c8 .if1 .left in
+    let x = c7 .size .ensures .0 in
+    let y = c6 .size2 .ensures .0 in
+    row-laid t l x y (sym (c5 .in-range .ensures) ∙ not-false (c5 .in-range .result) (c4 .if2 .left))
+    (c .before .before .if3 .left ∙ c3 .table-size .ensures)
+    (sym (c .before .sections-ok .ensures) ∙ not-true (c .before .sections-ok .result) (c .if4 .taken))
 
 returns-5 : tie.Need-returns-5
 returns-5 c =
-    let a = c .before .before .before .before .before .before .before .before .before .before .args in
+    let c3 = c .before .before .before in
+    let c4 = c3 .before in
+    let c5 = c4 .before in
+    let c6 = c5 .before in
+    let c7 = c6 .before in
+    let c8 = c7 .before in
+    let c10 = c8 .before .before in
+    let a = c10 .args in
     let t = a .t .now in
-    let l = c .before .before .before .before .before .before .before .before .if1 .left in
-    let x = c .before .before .before .before .before .before .before .size .ensures .0 in
-    let y = c .before .before .before .before .before .before .size2 .ensures .0 in
-    row-none t l x y (sym (c .before .before .before .before .before .in-range .ensures) ∙ not-false (c .before .before .before .before .before .in-range .result) (c .before .before .before .before .if2 .left)) (c .before .before .if3 .left ∙ c .before .before .before .table-size .ensures) (sym (c .before .sections-ok .ensures) ∙ not-false (c .before .sections-ok .result) (c .if4 .left))
+    let l = c8 .if1 .left in
+    let x = c7 .size .ensures .0 in
+    let y = c6 .size2 .ensures .0 in
+    row-none t l x y (sym (c5 .in-range .ensures) ∙ not-false (c5 .in-range .result) (c4 .if2 .left))
+    (c .before .before .if3 .left ∙ c3 .table-size .ensures)
+    (sym (c .before .sections-ok .ensures) ∙ not-false (c .before .sections-ok .result) (c .if4 .left))
 
 pub table-row-spec : {M : Type 1} → statement M
 table-row-spec =

@@ -12,7 +12,9 @@ use Rattle.layout.proofs.used.Statement.{statement}
 use Rattle.layout.proofs.used.Tie as tie
 
 abbrev Inv-loop : tie.InvT-loop
-Inv-loop t n e p at c most s₀ i₀ s i = (s .ok ≡ recordsOk n e (word t) p at i) × ((s .number ≡ number (recordsAt (word t) at i)) × ((s .sends ≡ sends (recordsAt (word t) at i)) × ((i ≤ c) × (s .sends ≤ i))))
+Inv-loop t n e p at c most s₀ i₀ s i =
+    (s .ok ≡ recordsOk n e (word t) p at i) × ((s .number ≡ number (recordsAt (word t) at i)) × ((s .sends ≡ sends (recordsAt (word
+    t) at i)) × ((i ≤ c) × (s .sends ≤ i))))
 
 abbrev μ-loop : tie.MeasureT-loop
 μ-loop t n e p at c most s₀ i₀ s i = c - i
@@ -55,11 +57,18 @@ loop-less c = search needs
 
 loop-again : tie.Need-loop-again Inv-loop μ-loop
 loop-again c =
-    let s = c .before .before .before .before .before in
+    let c5 = c .before .before .before .before .before in
+    let s = c5 in
     let a = s .before .before .args in
     let w = word (a .t .now) in
-    let sent : c .next .result .sends ≡ sends (recordsAt w (a .at) (s .loop .i + 1)) = rw (add-one, sends-event) (cc) in
-    (rw add-one (cc), (rw (add-one, number-event) (cc), (sent, (search needs, omega (arith, sends-at-most w (a .at) (s .loop .i + 1))))))
+    let sent : c .next .result .sends ≡ sends (recordsAt w (a .at) (s .loop .i + 1)) = rw (add-one, sends-event) (cc) in (
+      rw add-one (cc),
+      (
+        rw (add-one, number-event)
+            (cc),
+        (sent, (search needs, omega (arith, sends-at-most w (a .at) (s .loop .i + 1)))),
+      ),
+    )
 
 returns : tie.Need-returns Inv-loop μ-loop
 returns c = let h : c .before .loop .i ≡ c .before .before .before .args .c = omega arith in (cc, cc, cc)

@@ -23,10 +23,11 @@ loop-holds c = (refl, search needs, search needs)
 
 position-of-requires : tie.Need-position-of-requires Inv-loop μ-loop
 position-of-requires c κs =
-    let a = c .before .before .before .before .before .args in
+    let c5 = c .before .before .before .before .before in
+    let a = c5 .args in
     let p = c .before .before .loop .p in
     let m = mul-le-mul-right {m = p + 1} {n = a .n} (3 * (a .e + 1)) (omega arith) in
-    (omega arith, omega arith, omega arith, c .before .before .before .before .before .pre .4 p (c .before .loop-test .taken))
+    (omega arith, omega arith, omega arith, c5 .pre .4 p (c .before .loop-test .taken))
 
 put-requires : tie.Need-put-requires Inv-loop μ-loop
 put-requires c κs = search needs
@@ -39,9 +40,17 @@ loop-less c = search needs
 
 loop-again : tie.Need-loop-again Inv-loop μ-loop
 loop-again c =
-    let a = c .before .before .before .before .before .before .before .before .before .args in
-    let s = c .before .before .before .before .before .before .loop in
-    (line-next (a .area .now) (word (a .t .now)) (a .e) (a .m) (s .p) (s .inv .0) (c .before .before .put .ensures) (c .before .before .before .position-of .ensures), search needs, ap length (c .before .before .put .ensures) ∙ put-length (s .area) (s .p) (c .before .before .before .position-of .result) ∙ s .inv .2)
+    let c3 = c .before .before .before in
+    let c6 = c3 .before .before .before in
+    let c9 = c6 .before .before .before in
+    let a = c9 .args in
+    let s = c6 .loop in (
+      line-next (a .area .now) (word (a .t .now)) (a .e) (a .m) (s .p) (s .inv .0) (c .before .before .put .ensures)
+          (c3 .position-of .ensures),
+      search needs,
+      ap length (c .before .before .put .ensures) ∙ put-length (s .area) (s .p)
+          (c3 .position-of .result) ∙ s .inv .2,
+    )
 
 same-length : tie.Need-same-length Inv-loop μ-loop
 same-length c = search needs

@@ -9,19 +9,35 @@ table-row-requires : tie.Need-table-row-requires
 table-row-requires c κs = search needs
 
 returns : tie.Need-returns
-returns c = let a = c .before .before .before .args in line-table (a .t .now) (a .len) (c .before .table-row .ensures) (c .if1 .taken)
+returns c =
+    let c3 = c .before .before .before in
+    let a = c3 .args in
+    line-table (a .t .now) (a .len) (c .before .table-row .ensures) (c .if1 .taken)
 
 size-requires : tie.Need-size-requires
-size-requires c κs = let l = long (c .before .before .before .args .t .now) (c .before .table-row .ensures) (c .if1 .left) in omega arith
+size-requires c κs =
+    let c3 = c .before .before .before in
+    let l = long (c3 .args .t .now) (c .before .table-row .ensures) (c .if1 .left) in
+    omega arith
 
 mul-if2 : tie.Need-mul-if2
 mul-if2 c = search needs
 
 returns-2 : tie.Need-returns-2
-returns-2 c = let a = c .before .before .before .before .before .args in line-area (a .t .now) (a .len) (c .before .before .before .table-row .ensures) (c .before .before .if1 .left) (c .before .size .ensures .0) (c .if2 .taken)
+returns-2 c =
+    let c3 = c .before .before .before in
+    let c5 = c3 .before .before in
+    let a = c5 .args in
+    line-area (a .t .now) (a .len) (c3 .table-row .ensures) (c .before .before .if1 .left) (c .before .size .ensures .0)
+    (c .if2 .taken)
 
 returns-3 : tie.Need-returns-3
-returns-3 c = let a = c .before .before .before .before .before .args in line-none (a .t .now) (a .len) (c .before .before .before .table-row .ensures) (c .before .before .if1 .left) (c .before .size .ensures .0) (c .if2 .left)
+returns-3 c =
+    let c3 = c .before .before .before in
+    let c5 = c3 .before .before in
+    let a = c5 .args in
+    line-none (a .t .now) (a .len) (c3 .table-row .ensures) (c .before .before .if1 .left) (c .before .size .ensures .0)
+    (c .if2 .left)
 
 pub line-row-spec : {M : Type 1} → statement M
 line-row-spec =

@@ -9,19 +9,41 @@ table-row-requires : tie.Need-table-row-requires
 table-row-requires c κs = search needs
 
 returns : tie.Need-returns
-returns c = let a = c .before .before .before .args in act-table (a .t .now) (a .len) (a .want) (a .p) (c .before .table-row .ensures) (c .if1 .taken)
+returns c =
+    let c3 = c .before .before .before in
+    let a = c3 .args in
+    act-table (a .t .now) (a .len) (a .want) (a .p) (c .before .table-row .ensures) (c .if1 .taken)
 
 size-requires : tie.Need-size-requires
-size-requires c κs = let l = long (c .before .before .before .args .t .now) (c .before .table-row .ensures) (c .if1 .left) in omega arith
+size-requires c κs =
+    let c3 = c .before .before .before in
+    let l = long (c3 .args .t .now) (c .before .table-row .ensures) (c .if1 .left) in
+    omega arith
 
 returns-2 : tie.Need-returns-2
-returns-2 c = let a = c .before .before .before .before .before .args in act-area (a .t .now) (a .len) (a .want) (a .p) (c .before .before .before .table-row .ensures) (c .before .before .if1 .left) (c .if2 .taken)
+returns-2 c =
+    let c3 = c .before .before .before in
+    let c5 = c3 .before .before in
+    let a = c5 .args in
+    act-area (a .t .now) (a .len) (a .want) (a .p) (c3 .table-row .ensures) (c .before .before .if1 .left) (c .if2 .taken)
 
 returns-3 : tie.Need-returns-3
-returns-3 c = let a = c .before .before .before .before .before .before .args in act-process (a .t .now) (a .len) (a .want) (a .p) (c .before .before .before .before .table-row .ensures) (c .before .before .before .if1 .left) (c .before .if2 .left) (c .before .before .size .ensures .0) (c .if3 .taken)
+returns-3 c =
+    let c3 = c .before .before .before in
+    let c4 = c3 .before in
+    let c6 = c4 .before .before in
+    let a = c6 .args in
+    act-process (a .t .now) (a .len) (a .want) (a .p) (c4 .table-row .ensures) (c3 .if1 .left) (c .before .if2 .left)
+    (c .before .before .size .ensures .0) (c .if3 .taken)
 
 returns-4 : tie.Need-returns-4
-returns-4 c = let a = c .before .before .before .before .before .before .args in act-none (a .t .now) (a .len) (a .want) (a .p) (c .before .before .before .before .table-row .ensures) (c .before .before .before .if1 .left) (c .before .if2 .left) (c .before .before .size .ensures .0) (c .if3 .left)
+returns-4 c =
+    let c3 = c .before .before .before in
+    let c4 = c3 .before in
+    let c6 = c4 .before .before in
+    let a = c6 .args in
+    act-none (a .t .now) (a .len) (a .want) (a .p) (c4 .table-row .ensures) (c3 .if1 .left) (c .before .if2 .left)
+    (c .before .before .size .ensures .0) (c .if3 .left)
 
 pub act-row-spec : {M : Type 1} → statement M
 act-row-spec =

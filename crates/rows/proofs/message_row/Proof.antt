@@ -21,11 +21,18 @@ cast-if1 c = search needs
 
 returns : tie.Need-returns
 returns c =
-    let a = c .before .before .before .before .before .before .before .args in
-    let i = c .before .before .before .before .before .size .ensures .0 in
-    let j = c .before .before .before .before .size2 .ensures .0 in
-    let f = c .before .before .before .find-send .ensures in
-    (message-missing (a .t .now) (a .e) (a .at) (a .from) (a .p) (a .q) (a .k) i j (f .0) (f .1) (f .2) (c .if1 .taken), λ z. absurd (omega arith))
+    let c3 = c .before .before .before in
+    let c4 = c3 .before in
+    let c5 = c4 .before in
+    let c7 = c5 .before .before in
+    let a = c7 .args in
+    let i = c5 .size .ensures .0 in
+    let j = c4 .size2 .ensures .0 in
+    let f = c3 .find-send .ensures in (
+      message-missing (a .t .now) (a .e) (a .at) (a .from) (a .p) (a .q) (a .k) i j (f .0) (f .1) (f .2) (c .if1 .taken),
+      λ z.
+          absurd (omega arith),
+    )
 
 add-has-receipt : tie.Need-add-has-receipt
 add-has-receipt c = search needs
@@ -35,11 +42,18 @@ has-receipt-requires c κs = search needs
 
 returns-2 : tie.Need-returns-2
 returns-2 c =
-    let a = c .before .before .before .before .before .before .before .before .before .args in
-    let i = c .before .before .before .before .before .before .before .size .ensures .0 in
-    let j = c .before .before .before .before .before .before .size2 .ensures .0 in
-    let f = c .before .before .before .before .before .find-send .ensures in
-    (message-again (a .t .now) (a .e) (a .at) (a .from) (a .p) (a .q) (a .k) i j (f .0) (f .1) (f .2) (c .before .before .if1 .left) (c .before .has-receipt .ensures) (c .if2 .taken), λ z. absurd (omega arith))
+    let c5 = c .before .before .before .before .before in
+    let c6 = c5 .before in
+    let c7 = c6 .before in
+    let c9 = c7 .before .before in
+    let a = c9 .args in
+    let i = c7 .size .ensures .0 in
+    let j = c6 .size2 .ensures .0 in
+    let f = c5 .find-send .ensures in (
+      message-again (a .t .now) (a .e) (a .at) (a .from) (a .p) (a .q) (a .k) i j (f .0) (f .1) (f .2)
+          (c .before .before .if1 .left) (c .before .has-receipt .ensures) (c .if2 .taken),
+      λ z. absurd (omega arith),
+    )
 
 add-get : tie.Need-add-get
 add-get c = search needs
@@ -55,19 +69,39 @@ add-if3 c = search needs
 
 returns-3 : tie.Need-returns-3
 returns-3 c =
-    let a = c .before .before .before .before .before .before .before .before .before .before .before .before .args in
-    let i = c .before .before .before .before .before .before .before .before .before .before .size .ensures .0 in
-    let j = c .before .before .before .before .before .before .before .before .before .size2 .ensures .0 in
-    let f = c .before .before .before .before .before .before .before .before .find-send .ensures in
-    (message-full (a .t .now) (a .e) (a .at) (a .from) (a .p) (a .q) (a .k) i j (f .0) (f .1) (f .2) (c .before .before .before .before .before .if1 .left) (c .before .before .before .before .has-receipt .ensures) (c .before .before .before .if2 .left) (c .before .before .get .ensures) (c .before .needed .ensures .0) (c .if3 .taken), λ z. absurd (omega arith))
+    let c3 = c .before .before .before in
+    let c4 = c3 .before in
+    let c5 = c4 .before in
+    let c8 = c5 .before .before .before in
+    let c9 = c8 .before in
+    let c10 = c9 .before in
+    let c12 = c10 .before .before in
+    let a = c12 .args in
+    let i = c10 .size .ensures .0 in
+    let j = c9 .size2 .ensures .0 in
+    let f = c8 .find-send .ensures in (
+      message-full (a .t .now) (a .e) (a .at) (a .from) (a .p) (a .q) (a .k) i j (f .0) (f .1) (f .2) (c5 .if1 .left)
+          (c4 .has-receipt .ensures) (c3 .if2 .left) (c .before .before .get .ensures) (c .before .needed .ensures .0) (c .if3 .taken),
+      λ z. absurd (omega arith),
+    )
 
 returns-4 : tie.Need-returns-4
 returns-4 c =
-    let a = c .before .before .before .before .before .before .before .before .before .before .before .before .args in
-    let i = c .before .before .before .before .before .before .before .before .before .before .size .ensures .0 in
-    let j = c .before .before .before .before .before .before .before .before .before .size2 .ensures .0 in
-    let f = c .before .before .before .before .before .before .before .before .find-send .ensures in
-    (message-none (a .t .now) (a .e) (a .at) (a .from) (a .p) (a .q) (a .k) i j (f .0) (f .1) (f .2) (c .before .before .before .before .before .if1 .left) (c .before .before .before .before .has-receipt .ensures) (c .before .before .before .if2 .left) (c .before .before .get .ensures) (c .before .needed .ensures .0) (c .if3 .left), λ z. rw (← j) (f .1))
+    let c3 = c .before .before .before in
+    let c4 = c3 .before in
+    let c5 = c4 .before in
+    let c8 = c5 .before .before .before in
+    let c9 = c8 .before in
+    let c10 = c9 .before in
+    let c12 = c10 .before .before in
+    let a = c12 .args in
+    let i = c10 .size .ensures .0 in
+    let j = c9 .size2 .ensures .0 in
+    let f = c8 .find-send .ensures in (
+      message-none (a .t .now) (a .e) (a .at) (a .from) (a .p) (a .q) (a .k) i j (f .0) (f .1) (f .2) (c5 .if1 .left)
+          (c4 .has-receipt .ensures) (c3 .if2 .left) (c .before .before .get .ensures) (c .before .needed .ensures .0) (c .if3 .left),
+      λ z. rw (← j) (f .1),
+    )
 
 pub message-row-spec : {M : Type 1} → statement M
 message-row-spec =

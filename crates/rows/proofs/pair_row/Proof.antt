@@ -8,19 +8,34 @@ act-row-requires : tie.Need-act-row-requires
 act-row-requires c κs = search needs
 
 returns : tie.Need-returns
-returns c = let a = c .before .before .before .args in pair-act (a .t .now) (a .len) (a .p) (a .q) (c .before .act-row .ensures) (c .if1 .taken)
+returns c =
+    let c3 = c .before .before .before in
+    let a = c3 .args in
+    pair-act (a .t .now) (a .len) (a .p) (a .q) (c .before .act-row .ensures) (c .if1 .taken)
 
 size-requires : tie.Need-size-requires
 size-requires c κs =
-    let a = c .before .before .before .args in
-    let w = acts (a .t .now) (λ i. omega (arith, c .before .before .shared-slice-known .given i)) (a .len) 8 (a .p) (c .before .act-row .ensures) (c .if1 .left) in
+    let c3 = c .before .before .before in
+    let a = c3 .args in
+    let w = acts (a .t .now) (λ i. omega (arith, c .before .before .shared-slice-known .given i)) (a .len) 8 (a .p)
+    (c .before .act-row .ensures) (c .if1 .left) in
     omega (arith, w .table .is .whole)
 
 returns-2 : tie.Need-returns-2
-returns-2 c = let a = c .before .before .before .before .before .args in pair-other (a .t .now) (a .len) (a .p) (a .q) (c .before .before .before .act-row .ensures) (c .before .before .if1 .left) (c .before .size .ensures .0) (c .if2 .taken)
+returns-2 c =
+    let c3 = c .before .before .before in
+    let c5 = c3 .before .before in
+    let a = c5 .args in
+    pair-other (a .t .now) (a .len) (a .p) (a .q) (c3 .act-row .ensures) (c .before .before .if1 .left)
+    (c .before .size .ensures .0) (c .if2 .taken)
 
 returns-3 : tie.Need-returns-3
-returns-3 c = let a = c .before .before .before .before .before .args in pair-none (a .t .now) (a .len) (a .p) (a .q) (c .before .before .before .act-row .ensures) (c .before .before .if1 .left) (c .before .size .ensures .0) (c .if2 .left)
+returns-3 c =
+    let c3 = c .before .before .before in
+    let c5 = c3 .before .before in
+    let a = c5 .args in
+    pair-none (a .t .now) (a .len) (a .p) (a .q) (c3 .act-row .ensures) (c .before .before .if1 .left)
+    (c .before .size .ensures .0) (c .if2 .left)
 
 pub pair-row-spec : {M : Type 1} → statement M
 pair-row-spec = tie.close (tie.spec act-row-requires returns size-requires returns-2 returns-3)

@@ -47,7 +47,8 @@ loop-less c = search needs
 
 loop-again : tie.Need-loop-again Inv-loop μ-loop
 loop-again c =
-    let s = c .before .before .before .before in
+    let c4 = c .before .before .before .before in
+    let s = c4 in
     let a = s .before .before .args in
     let w = word (a .t .now) in
     let sent : c .sent-next .result .sends ≡ sends (recordsAt w (a .at) (s .loop .i + 1)) = rw (add-one, sends-event) (cc) in (

@@ -11,7 +11,8 @@ use Rattle.scans.proofs.position.Statement.{statement}
 use Rattle.scans.proofs.position.Tie as tie
 
 abbrev Inv-loop : tie.InvT-loop
-Inv-loop t at c m reached₀ r₀ i₀ reached r i = (reached ≡ reachedBy m (recordsAt (word t) at i)) × (r ≡ numbered m (recordsAt (word t) at i)) × (i ≤ c)
+Inv-loop t at c m reached₀ r₀ i₀ reached r i =
+    (reached ≡ reachedBy m (recordsAt (word t) at i)) × (r ≡ numbered m (recordsAt (word t) at i)) × (i ≤ c)
 
 abbrev μ-loop : tie.MeasureT-loop
 μ-loop t at c m reached₀ r₀ i₀ reached r i = c - i
@@ -50,7 +51,11 @@ loop-again : tie.Need-loop-again Inv-loop μ-loop
 loop-again c = (rw reached-next (cc), rw numbered-next (cc), search needs)
 
 returns : tie.Need-returns Inv-loop μ-loop
-returns c = let h : c .before .loop .i ≡ c .before .before .before .args .c = omega arith in let e : c .before .loop .r ≡ numbered (c .before .before .before .args .m) (recordsAt (word (c .before .before .before .args .t .now)) (c .before .before .before .args .at) (c .before .before .before .args .c)) = cc in (e, omega (arith, position-le (c .before .before .before .args .m) (word (c .before .before .before .args .t .now)) (c .before .before .before .args .at) (c .before .before .before .args .c)))
+returns c =
+    let c3 = c .before .before .before in
+    let h : c .before .loop .i ≡ c3 .args .c = omega arith in
+    let e : c .before .loop .r ≡ numbered (c3 .args .m) (recordsAt (word (c3 .args .t .now)) (c3 .args .at) (c3 .args .c)) = cc in
+    (e, omega (arith, position-le (c3 .args .m) (word (c3 .args .t .now)) (c3 .args .at) (c3 .args .c)))
 
 pub position-spec : {M : Type 1} → statement M
 position-spec =

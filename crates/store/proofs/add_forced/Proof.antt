@@ -37,7 +37,14 @@ same-length : tie.Need-same-length
 same-length c = search needs
 
 returns : tie.Need-returns
-returns c = let a = c .before .before .before .before .before .before .before .before .before .before .before .before .before .before .before .args in forced-put (a .t .now) (a .at) (a .s) (c .before .before .before .before .before .before .before .before .before .before .before .before .get .ensures) (a .m) (a .q) (a .k) (c .before .before .before .before .before .before .before .before .before .before .put-three .ensures) (c .before .before .before .before .before .before .put-three2 .ensures) (c .before .before .put-three3 .ensures)
+returns c =
+    let c6 = c .before .before .before .before .before .before in
+    let c10 = c6 .before .before .before .before in
+    let c12 = c10 .before .before in
+    let c15 = c12 .before .before .before in
+    let a = c15 .args in
+    forced-put (a .t .now) (a .at) (a .s) (c12 .get .ensures) (a .m) (a .q) (a .k) (c10 .put-three .ensures)
+    (c6 .put-three2 .ensures) (c .before .before .put-three3 .ensures)
 
 pub add-forced-spec : {M : Type 1} → statement M
 add-forced-spec =

@@ -31,7 +31,13 @@ same-length : tie.Need-same-length
 same-length c = search needs
 
 returns : tie.Need-returns
-returns c = let a = c .before .before .before .before .before .before .before .before .before .before .before .args in record-put (a .t .now) (a .at) (a .s) (c .before .before .before .before .before .before .before .before .get .ensures) (a .x) (a .kind) (a .a) (a .b) (c .before .before .before .before .before .before .put-three .ensures) (c .before .before .put-three2 .ensures)
+returns c =
+    let c6 = c .before .before .before .before .before .before in
+    let c8 = c6 .before .before in
+    let c11 = c8 .before .before .before in
+    let a = c11 .args in
+    record-put (a .t .now) (a .at) (a .s) (c8 .get .ensures) (a .x) (a .kind) (a .a) (a .b) (c6 .put-three .ensures)
+    (c .before .before .put-three2 .ensures)
 
 pub add-record-spec : {M : Type 1} → statement M
 add-record-spec =

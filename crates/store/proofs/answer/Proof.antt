@@ -13,7 +13,11 @@ same-length : tie.Need-same-length
 same-length c = search needs
 
 returns : tie.Need-returns
-returns c = let a = c .before .before .before .before .before .before .before .before .before .args in two-puts (a .area .now) (a .x) (a .y) (c .before .before .before .before .before .before .put .ensures) (c .before .before .put2 .ensures)
+returns c =
+    let c6 = c .before .before .before .before .before .before in
+    let c9 = c6 .before .before .before in
+    let a = c9 .args in
+    two-puts (a .area .now) (a .x) (a .y) (c6 .put .ensures) (c .before .before .put2 .ensures)
 
 pub answer-spec : {M : Type 1} → statement M
 answer-spec = tie.close (tie.spec put-requires put-requires-2 same-length returns)

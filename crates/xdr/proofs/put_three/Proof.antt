@@ -22,7 +22,12 @@ same-length : tie.Need-same-length
 same-length c = search needs
 
 returns : tie.Need-returns
-returns c = let a = c .before .before .before .before .before .before .before .before .before .before .before .before .before .args in three-puts (a .s .now) (a .i) (a .x) (a .y) (a .z) (c .before .before .before .before .before .before .before .before .before .before .put .ensures) (c .before .before .before .before .before .before .put2 .ensures) (c .before .before .put3 .ensures)
+returns c =
+    let c6 = c .before .before .before .before .before .before in
+    let c10 = c6 .before .before .before .before in
+    let c13 = c10 .before .before .before in
+    let a = c13 .args in
+    three-puts (a .s .now) (a .i) (a .x) (a .y) (a .z) (c10 .put .ensures) (c6 .put2 .ensures) (c .before .before .put3 .ensures)
 
 pub put-three-spec : {M : Type 1} → statement M
 put-three-spec =
