@@ -50,7 +50,13 @@ vectors_current() {
         diff crates/vectors/specs/Vectors.antt "$made/Vectors.antt" | head -n 20
 }
 
+worked_host() {
+    ${CC:-cc} -std=c99 -O2 -Wall -Wextra -Wpedantic -Werror -o "$made/worked" examples/worked.c target/staticlib/libengine.a &&
+        "$made/worked"
+}
+
 check "the engine's archive" rt staticlib engine
+check "the worked controller from C" worked_host
 check "the reference engine is as it was taken over" reference_unchanged
 check "the vectors are what the reference engine gives" vectors_current
 cargo_tests reference --manifest-path tests/reference/Cargo.toml
