@@ -109,16 +109,25 @@ send-of (sent q ∷ h) k pos le = go (test (eqb k (suc (sends h)))) (send-of h k
         let l : k ≤ sends h = omega arith in
         send-later (sent q) h k l (r l)
 
+-- ---- what holds of each record, with those before it
+
+abbrev pub Each : (Event → History → Type 0) → History → Type 0
+Each P [] = Unit {0}
+Each P (e ∷ h) = P e h × Each P h
+
+pub each-older : (P : Event → History → Type 0) {h g : History} → Older h g → Each P g → Each P h
+each-older P same r = r
+each-older P (newer o) r = each-older P o (r .1)
+
+pub each-all : (P Q : Event → History → Type 0) → ((e : Event) (h : History) → P e h → Q e h) → (h : History) → Each P h → Each Q h
+each-all P Q f [] r = tt
+each-all P Q f (e ∷ h) r = (f e h (r .0), each-all P Q f h (r .1))
+
 -- ---- numbers never fall
 
 abbrev pub Rising : History → Type 0
-Rising [] = Unit {0}
-Rising (e ∷ h) = (number h ≤ number (e ∷ h)) × Rising h
+Rising = Each (λ (e : Event) (h : History). number h ≤ number (e ∷ h))
 
 pub rising-older : {h g : History} → Older h g → Rising g → number h ≤ number g
 rising-older {h} same r = le-refl (number h)
 rising-older (newer o) r = le-trans (rising-older o (r .1)) (r .0)
-
-pub rising-part : {h g : History} → Older h g → Rising g → Rising h
-rising-part same r = r
-rising-part (newer o) r = rising-part o (r .1)

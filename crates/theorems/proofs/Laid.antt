@@ -1,4 +1,4 @@
--- A made state's table is well laid and hasSend the state's records.
+-- A made state's table is well laid and holds the state's records.
 use mathlib.Core.Path.{_≡_, refl, sym, ap, ap₂, _∙_, subst}
 use mathlib.Core.Logic.{_≢_}
 use mathlib.Core.Bool.{true}
@@ -12,20 +12,21 @@ use Rattle.rules.specs.Records.{Event, basic, forced, sent, received, History, 
 use Rattle.xdr.specs.Words.{word}
 use Rattle.rules.specs.Table.{recordWords, usedWords, sectionWords, sectionsWords, layout, eventOf, recordsAt, start, sectionAt, sectionsFrom, recordOk, recordsOk, zerosAt, sectionOk, sectionsOk, decoded, size}
 use Rattle.theorems.proofs.Older.{Older, same, newer, older-trans}
-use Rattle.theorems.proofs.Histories.{holds-held, sends-older, rising-older}
-use Rattle.theorems.proofs.Made.{Made, Named, number-le}
-use Rattle.theorems.proofs.Lines.{sourced-older}
+use Rattle.theorems.proofs.Histories.{holds-held, sends-older, Each, each-older, rising-older}
+use Rattle.theorems.proofs.Made.{Source, Name, Made, number-le}
 use Rattle.xdr.proofs.Laws.{Small, word-bytes, bytes-length}
 use Rattle.theorems.proofs.Words.{At, at-word, at-left, at-right}
 
 -- ---- the records of a made state are within their ranges
 
+abbrev pub Law : ℕ → ℕ → ℕ → Event → History → Type 0
+Law n E p (basic m) h = m ≤ n * E
+Law n E p (forced m) h = m ≤ n * E
+Law n E p (sent q) h = (q < n) × (q ≢ p) × (suc (sends h) ≤ E)
+Law n E p (received q k) h = (q < n) × (q ≢ p) × (0 < k) × (k ≤ E)
+
 abbrev pub Legal : ℕ → ℕ → ℕ → History → Type 0
-Legal n E p [] = Unit {0}
-Legal n E p (basic m ∷ h) = (m ≤ n * E) × Legal n E p h
-Legal n E p (forced m ∷ h) = (m ≤ n * E) × Legal n E p h
-Legal n E p (sent q ∷ h) = (q < n) × (q ≢ p) × (suc (sends h) ≤ E) × Legal n E p h
-Legal n E p (received q k ∷ h) = (q < n) × (q ≢ p) × (0 < k) × (k ≤ E) × Legal n E p h
+Legal n E p = Each (Law n E p)
 
 pub sends-length : (h : History) → sends h ≤ length h
 sends-length [] = zero-le
@@ -34,13 +35,6 @@ sends-length (forced m ∷ h) = let r = sends-length h in omega arith
 sends-length (sent q ∷ h) = let r = sends-length h in omega arith
 sends-length (received q k ∷ h) = let r = sends-length h in omega arith
 
-named-older : (n p : ℕ) {g h : History} → Older g h → Named n p h → Named n p g
-named-older n p same N = N
-named-older n p (newer {e = basic m} o) N = named-older n p o N
-named-older n p (newer {e = forced m} o) N = named-older n p o N
-named-older n p (newer {e = sent q} o) N = named-older n p o (N .2)
-named-older n p (newer {e = received q k} o) N = named-older n p o (N .2)
-
 module _ (n E : ℕ) (s : State) (M : Made n E s) where
   number-part : (p : ℕ) (h : History) → Older h (history s p) → number h ≤ n * E
   number-part p h o = le-trans (rising-older o (M .rising p)) (number-le n E s M p)
@@ -48,18 +42,21 @@ module _ (n E : ℕ) (s : State) (M : Made n E s) where
   sends-part : (p : ℕ) (h : History) → Older h (history s p) → sends h ≤ E
   sends-part p h o = le-trans (sends-older o) (le-trans (sends-length (history s p)) (M .short p))
 
+  law-part : (p : ℕ) (e : Event) (h : History) → Older (e ∷ h) (history s p) → Law n E p e h
+  law-part p (basic m) h o = number-part p (basic m ∷ h) o
+  law-part p (forced m) h o = number-part p (forced m ∷ h) o
+  law-part p (sent q) h o =
+      let N = each-older (Name n p) o (M .named p) .0 in
+      (N .0, N .1, sends-part p (sent q ∷ h) o)
+  law-part p (received q k) h o =
+      let N = each-older (Name n p) o (M .named p) .0 in
+      let S = each-older (Source s p) o (M .sourced p) .0 in
+      let H = holds-held (history s q) p k (S .0) in
+      (N .0, N .1, H .positive, le-trans (H .counted) (sends-part q (history s q) same))
+
   legal-part : (p : ℕ) (h : History) → Older h (history s p) → Legal n E p h
   legal-part p [] o = tt
-  legal-part p (basic m ∷ h) o = (number-part p (basic m ∷ h) o, legal-part p h (older-trans (newer same) o))
-  legal-part p (forced m ∷ h) o = (number-part p (forced m ∷ h) o, legal-part p h (older-trans (newer same) o))
-  legal-part p (sent q ∷ h) o =
-      let N = named-older n p o (M .named p) in
-      (N .0, N .1, sends-part p (sent q ∷ h) o, legal-part p h (older-trans (newer same) o))
-  legal-part p (received q k ∷ h) o =
-      let N = named-older n p o (M .named p) in
-      let S = sourced-older s p o (M .sourced p) in
-      let H = holds-held (history s q) p k (S .0) in
-      (N .0, N .1, H .positive, le-trans (H .counted) (sends-part q (history s q) same), legal-part p h (older-trans (newer same) o))
+  legal-part p (e ∷ h) o = (law-part p e h o, legal-part p h (older-trans (newer same) o))
 
   pub legal : (p : ℕ) → Legal n E p (history s p)
   legal p = legal-part p (history s p) same
@@ -101,26 +98,20 @@ records-at w at (e ∷ h) a =
 
 -- ---- records are well laid
 
-record-ok : (n E p : ℕ) (e : Event) (h : History) → Legal n E p (e ∷ h)
+record-ok : (n E p : ℕ) (e : Event) (h : History) → Law n E p e h
     → recordOk n E p (sends h) (getD (recordWords e h) 0 0) (getD (recordWords e h) 1 0) (getD (recordWords e h) 2 0) ≡ true
-record-ok n E p (basic m) h L = rw (le-leb m (n * E) (L .0))
-record-ok n E p (forced m) h L = rw (le-leb m (n * E) (L .0))
+record-ok n E p (basic m) h L = rw (le-leb m (n * E) L)
+record-ok n E p (forced m) h L = rw (le-leb m (n * E) L)
 record-ok n E p (sent q) h L =
     rw (lt-ltb q n (L .0), ne-eqb q p (L .1), lt-ltb 0 (suc (sends h)) (omega arith), le-leb (suc (sends h)) E (L .2), eq-eqb (suc (sends h)) (suc (sends h)) refl)
 record-ok n E p (received q k) h L = rw (lt-ltb q n (L .0), ne-eqb q p (L .1), lt-ltb 0 k (L .2), le-leb k E (L .3))
-
-legal-tail : (n E p : ℕ) (e : Event) (h : History) → Legal n E p (e ∷ h) → Legal n E p h
-legal-tail n E p (basic m) h L = L .1
-legal-tail n E p (forced m) h L = L .1
-legal-tail n E p (sent q) h L = L .3
-legal-tail n E p (received q k) h L = L .4
 
 records-ok : (n E : ℕ) (w : ℕ → ℕ) (p at : ℕ) (h : History) → At w at (usedWords h) → Legal n E p h → recordsOk n E w p at (length h) ≡ true
 records-ok n E w p at [] a L = refl
 records-ok n E w p at (e ∷ h) a L =
     let t = three-at w at e h a in
     let b = at-left w at (usedWords h) (recordWords e h) a in
-    rw (records-ok n E w p at h b (legal-tail n E p e h L), t .1, t .2, t .0, records-at w at h b) (record-ok n E p e h L)
+    rw (records-ok n E w p at h b (L .1), t .1, t .2, t .0, records-at w at h b) (record-ok n E p e h (L .0))
 
 zeros-at : (w : ℕ → ℕ) (at m : ℕ) → ((j : ℕ) → j < m → w (at + j) ≡ 0) → zerosAt w at m ≡ true
 zeros-at w at zero z = refl
@@ -228,12 +219,16 @@ small-zeros : (m : ℕ) → Small (replicate m 0)
 small-zeros zero = tt
 small-zeros (suc m) = (omega arith, small-zeros m)
 
+small-record : (n E p : ℕ) → n ≤ 16 → E ≤ 1024 → n * E ≤ 16384 → (e : Event) (h : History) → Law n E p e h → Small (recordWords e h)
+small-record n E p a b c (basic m) h L = omega arith
+small-record n E p a b c (forced m) h L = omega arith
+small-record n E p a b c (sent q) h L = let x = L .0 in let y = L .2 in omega arith
+small-record n E p a b c (received q k) h L = let x = L .0 in let y = L .3 in omega arith
+
 small-used : (n E p : ℕ) → n ≤ 16 → E ≤ 1024 → n * E ≤ 16384 → (h : History) → Legal n E p h → Small (usedWords h)
 small-used n E p a b c [] L = tt
-small-used n E p a b c (basic m ∷ h) L = let x = L .0 in small-append (usedWords h) (recordWords (basic m) h) (small-used n E p a b c h (L .1)) (omega arith)
-small-used n E p a b c (forced m ∷ h) L = let x = L .0 in small-append (usedWords h) (recordWords (forced m) h) (small-used n E p a b c h (L .1)) (omega arith)
-small-used n E p a b c (sent q ∷ h) L = let x = L .0 in let y = L .2 in small-append (usedWords h) (recordWords (sent q) h) (small-used n E p a b c h (L .3)) (omega arith)
-small-used n E p a b c (received q k ∷ h) L = let x = L .0 in let y = L .3 in small-append (usedWords h) (recordWords (received q k) h) (small-used n E p a b c h (L .4)) (omega arith)
+small-used n E p a b c (e ∷ h) L =
+    small-append (usedWords h) (recordWords e h) (small-used n E p a b c h (L .1)) (small-record n E p a b c e h (L .0))
 
 small-sections : (n E : ℕ) → n ≤ 16 → E ≤ 1024 → n * E ≤ 16384 → (s : State) (p : ℕ)
     → ((q : ℕ) → length (history s q) ≤ E) → ((q : ℕ) → number (history s q) ≤ n * E) → ((q : ℕ) → Legal n E (p + q) (history s q)) → Small (sectionsWords E s)

@@ -12,9 +12,9 @@ use borrow.Author.Tests.{leb-false, le-leb, lt-leb, eq-eqb}
 use Rattle.rules.specs.Records.{Event, basic, forced, sent, received, History, State, history, number, sends, carried, destination, hasSend}
 use Rattle.rules.specs.Lines.{upto, part, orphan, NoOrphan, atLeast, orElse, firstNumbered, orCount, numbered, numberedLine}
 use Rattle.theorems.proofs.Older.{Older, same, newer, older-length}
-use Rattle.theorems.proofs.Histories.{Test, passes, fails, test, Held, holds-held, held-holds, holds-older, send-of, Rising, rising-part}
+use Rattle.theorems.proofs.Histories.{Test, passes, fails, test, Held, holds-held, held-holds, holds-older, send-of, each-older, Rising}
 use Rattle.theorems.proofs.Steps.{or-false}
-use Rattle.theorems.proofs.Made.{Made, Sourced}
+use Rattle.theorems.proofs.Made.{Made, Source, Sourced}
 
 -- ---- positions and older parts
 
@@ -134,16 +134,6 @@ line-keeps N {g} (newer {e = x} {g = y} o) e = go (test (reached N y)) (line-kee
 
 -- ---- no orphan
 
-sourced-tail : (s : State) (p : ℕ) (e : Event) (h : History) → Sourced s p (e ∷ h) → Sourced s p h
-sourced-tail s p (basic m) h S = S
-sourced-tail s p (forced m) h S = S
-sourced-tail s p (sent q) h S = S
-sourced-tail s p (received q k) h S = S .2
-
-pub sourced-older : (s : State) (p : ℕ) {g h : History} → Older g h → Sourced s p h → Sourced s p g
-sourced-older s p same S = S
-sourced-older s p (newer {e} {g = x} o) S = sourced-older s p o (sourced-tail s p e x S)
-
 module _ (n E : ℕ) (s : State) (M : Made n E s) (N : ℕ) where
   -- the send of a message that carries less than N is in the line
   send-kept : (p q k c : ℕ) → hasSend (history s q) p k ≡ true → carried (history s q) k ≤ c → c < N → hasSend (lineOf N (history s q)) p k ≡ true
@@ -151,7 +141,7 @@ module _ (n E : ℕ) (s : State) (M : Made n E s) (N : ℕ) where
       let h = history s q in
       let H = holds-held h p k e in
       let S = send-of h k (H .positive) (H .counted) in
-      let R : Rising (sent (destination h k) ∷ S .rest) = rising-part (S .there) (M .rising q) in
+      let R : Rising (sent (destination h k) ∷ S .rest) = each-older _ (S .there) (M .rising q) in
       let x = S .carries in
       let y = S .place in
       let u : reached N (S .rest) ≡ false = reached-below N (S .rest) (R .1) (omega arith) in
@@ -160,7 +150,7 @@ module _ (n E : ℕ) (s : State) (M : Made n E s) (N : ℕ) where
       in
       holds-older (line-keeps N (S .there) u) p k (held-holds (sent (destination h k) ∷ S .rest) p k held)
 
-  here : (p : ℕ) (e : Event) (h : History) → Sourced s p (e ∷ h) → reached N h ≡ false → orphan s (numberedLine N s) p e ≡ false
+  here : (p : ℕ) (e : Event) (h : History) → Source s p e h → reached N h ≡ false → orphan s (numberedLine N s) p e ≡ false
   here p (basic m) h S u = refl
   here p (forced m) h S u = refl
   here p (sent q) h S u = refl
@@ -168,10 +158,10 @@ module _ (n E : ℕ) (s : State) (M : Made n E s) (N : ℕ) where
 
   clean-part : (p : ℕ) (h : History) → Sourced s p h → Unreached N h → (e : Event) → List·Memᴰ e h → orphan s (numberedLine N s) p e ≡ false
   clean-part p [] S u e m = absurd (List·Memᴰ·not-nil m)
-  clean-part p (x ∷ h) S u e (List·Memᴰ·head eq) = rw eq (here p x h S u)
-  clean-part p (x ∷ h) S u e (List·Memᴰ·tail m) = clean-part p h (sourced-tail s p x h S) (unreached-tail N h u) e m
+  clean-part p (x ∷ h) S u e (List·Memᴰ·head eq) = rw eq (here p x h (S .0) u)
+  clean-part p (x ∷ h) S u e (List·Memᴰ·tail m) = clean-part p h (S .1) (unreached-tail N h u) e m
 
   pub line-clean : NoOrphan s (numberedLine N s)
   line-clean p e m =
-      clean-part p (lineOf N (history s p)) (sourced-older s p (line-older N (history s p)) (M .sourced p)) (line-unreached N (history s p)) e
+      clean-part p (lineOf N (history s p)) (each-older (Source s p) (line-older N (history s p)) (M .sourced p)) (line-unreached N (history s p)) e
       (rw part-line at m)

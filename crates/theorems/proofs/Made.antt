@@ -1,4 +1,4 @@
--- What hasSend of every state that a list of calls makes: sizes, numbers that never fall, receipts with their sends.
+-- What holds of every state that a list of calls makes: sizes, numbers that never fall, receipts with their sends.
 use mathlib.Core.Path.{_≡_, refl, _∙_, subst}
 use mathlib.Core.Logic.{_≢_, _⊎_, inl, inr}
 use mathlib.Core.Bool.{Bool, true, false, cond}
@@ -9,52 +9,51 @@ use native.Mathlib.Omega.{arith}
 use lib.Dec.{eqb, ltb, leb}
 use lib.ListN.{length, set, length-set, length-replicate}
 use borrow.Author.Tests.{ltb-true, ltb-false, leb-false, eqb-true}
-use Rattle.rules.specs.Records.{basic, forced, sent, received, History, State, history, number, sends, carried, hasSend}
+use Rattle.rules.specs.Records.{Event, basic, forced, sent, received, History, State, history, number, sends, carried, hasSend}
 use Rattle.rules.specs.Table.{fresh}
 use Rattle.rules.specs.Steps.{Call, checkpoint, send, receipt, forces, carries, grown, stepped}
 use Rattle.rules.specs.Lines.{sum}
 use Rattle.rules.specs.Calls.{Row, row, first, stepRows}
 use Rattle.rules.specs.Lists.{Entry, entry, check, after, run}
 use Rattle.theorems.proofs.Older.{Older, older-length}
-use Rattle.theorems.proofs.Histories.{Test, passes, fails, test, holds-held, holds-older, carried-older, Rising}
+use Rattle.theorems.proofs.Histories.{Test, passes, fails, test, holds-held, holds-older, carried-older, Each, each-all, Rising}
 use Rattle.theorems.proofs.Steps.{Accepted, run-keeps, after-keeps, history-fresh, each-step, grown-older, grown-length, stepped-older, carries-later}
 
 -- ---- each receipt has its send, addressed to it, and comes after a checkpoint with at least the number carried
 
-abbrev pub Sourced : State → ℕ → History → Type 0
-Sourced s p [] = Unit {0}
-Sourced s p (basic m ∷ h) = Sourced s p h
-Sourced s p (forced m ∷ h) = Sourced s p h
-Sourced s p (sent q ∷ h) = Sourced s p h
-Sourced s p (received q k ∷ h) = (hasSend (history s q) p k ≡ true) × (carried (history s q) k ≤ number h) × Sourced s p h
+abbrev pub Source : State → ℕ → Event → History → Type 0
+Source s p (basic m) h = Unit {0}
+Source s p (forced m) h = Unit {0}
+Source s p (sent q) h = Unit {0}
+Source s p (received q k) h = (hasSend (history s q) p k ≡ true) × (carried (history s q) k ≤ number h)
 
-sourced-later : (s f : State) → ((q : ℕ) → Older (history s q) (history f q)) → (p : ℕ) (h : History) → Sourced s p h → Sourced f p h
-sourced-later s f o p [] S = tt
-sourced-later s f o p (basic m ∷ h) S = sourced-later s f o p h S
-sourced-later s f o p (forced m ∷ h) S = sourced-later s f o p h S
-sourced-later s f o p (sent q ∷ h) S = sourced-later s f o p h S
-sourced-later s f o p (received q k ∷ h) S = (
+abbrev pub Sourced : State → ℕ → History → Type 0
+Sourced s p = Each (Source s p)
+
+source-later : (s f : State) → ((q : ℕ) → Older (history s q) (history f q)) → (p : ℕ) (e : Event) (h : History) → Source s p e h → Source f p e h
+source-later s f o p (basic m) h S = tt
+source-later s f o p (forced m) h S = tt
+source-later s f o p (sent q) h S = tt
+source-later s f o p (received q k) h S = (
   holds-older (o q) p k (S .0),
   rw (carried-older (o q) k (holds-held (history s q) p k (S .0) .counted)) (S .1),
-  sourced-later s f o p h (S .2),
 )
 
 -- ---- sends and receipts name another process
 
-abbrev pub Named : ℕ → ℕ → History → Type 0
-Named n p [] = Unit {0}
-Named n p (basic m ∷ h) = Named n p h
-Named n p (forced m ∷ h) = Named n p h
-Named n p (sent q ∷ h) = (q < n) × (q ≢ p) × Named n p h
-Named n p (received q k ∷ h) = (q < n) × (q ≢ p) × Named n p h
+abbrev pub Name : ℕ → ℕ → Event → History → Type 0
+Name n p (basic m) h = Unit {0}
+Name n p (forced m) h = Unit {0}
+Name n p (sent q) h = (q < n) × (q ≢ p)
+Name n p (received q k) h = (q < n) × (q ≢ p)
 
-grown-named : (n E : ℕ) (s : State) (p : ℕ) (call : Call) → Accepted n E s p call → (h : History) (c : ℕ) → Named n p h → Named n p (grown h call c)
-grown-named n E s p checkpoint A h c N = N
-grown-named n E s p (send q) A h c N = (A .message .0, A .message .1, N)
-grown-named n E s p (receipt q k) A h c N = (A .message .0, A .message .1, go (forces h c))
+grown-named : (n E : ℕ) (s : State) (p : ℕ) (call : Call) → Accepted n E s p call → (h : History) (c : ℕ) → Each (Name n p) h → Each (Name n p) (grown h call c)
+grown-named n E s p checkpoint A h c N = (tt, N)
+grown-named n E s p (send q) A h c N = ((A .message .0, A .message .1), N)
+grown-named n E s p (receipt q k) A h c N = ((A .message .0, A .message .1), go (forces h c))
   where
-    go : (b : Bool) → Named n p ((cond b (forced c ∷ []) [] ++ h))
-    go true = N
+    go : (b : Bool) → Each (Name n p) ((cond b (forced c ∷ []) [] ++ h))
+    go true = (tt, N)
     go false = N
 
 -- ---- the number carried is at most the sender's number
@@ -101,7 +100,7 @@ pub record Made (n E : ℕ) (s : State) : Type 0 where
   pub short : (p : ℕ) → length (history s p) ≤ E
   pub rising : (p : ℕ) → Rising (history s p)
   pub sourced : (p : ℕ) → Sourced s p (history s p)
-  pub named : (p : ℕ) → Named n p (history s p)
+  pub named : (p : ℕ) → Each (Name n p) (history s p)
   pub bounded : (p : ℕ) → number (history s p) ≤ total s
 
 grown-rising : (h : History) (call : Call) (c : ℕ) → Rising h → Rising (grown h call c)
@@ -115,13 +114,13 @@ grown-rising h (receipt q k) c r = go (test (forces h c))
 
 grown-sourced : (f : State) (p : ℕ) (h : History) (call : Call) (c : ℕ) → carries f call ≡ c
     → ((q k : ℕ) → call ≡ receipt q k → hasSend (history f q) p k ≡ true) → Sourced f p h → Sourced f p (grown h call c)
-grown-sourced f p h checkpoint c x m S = S
-grown-sourced f p h (send q) c x m S = S
+grown-sourced f p h checkpoint c x m S = (tt, S)
+grown-sourced f p h (send q) c x m S = (tt, S)
 grown-sourced f p h (receipt q k) c x m S = go (test (forces h c))
   where
     go : Test (forces h c) → Sourced f p (received q k ∷ (cond (forces h c) (forced c ∷ []) [] ++ h))
-    go (passes e) = rw e (m q k refl, omega arith, S)
-    go (fails e) = rw e (m q k refl, (let l = ltb-false (number h) c e in omega arith), S)
+    go (passes e) = rw e ((m q k refl, omega arith), (tt, S))
+    go (fails e) = rw e ((m q k refl, (let l = ltb-false (number h) c e in omega arith)), S)
 
 grown-number : (h : History) (call : Call) (c t : ℕ) → number h ≤ t → c ≤ t → number (grown h call c) + length h ≤ t + length (grown h call c)
 grown-number h checkpoint c t a b = omega arith
@@ -164,9 +163,9 @@ made-step n E s p call M A =
       rising = each-step (λ (r : ℕ) (x : History). Rising x) s p g lt (grown-rising h call c (M .rising p)) (λ r ne. M .rising r);
       sourced = each-step (λ (r : ℕ) (x : History). Sourced f r x) s p g lt
           (grown-sourced f p h call c (carries-later n E s f p call A o)
-          (λ q k e. holds-older (o q) p k (message-held n E s p call A q k e)) (sourced-later s f o p h (M .sourced p)))
-          (λ r ne. sourced-later s f o r (history s r) (M .sourced r));
-      named = each-step (λ (r : ℕ) (x : History). Named n r x) s p g lt (grown-named n E s p call A h c (M .named p)) (λ r ne. M .named r);
+          (λ q k e. holds-older (o q) p k (message-held n E s p call A q k e)) (each-all (Source s p) (Source f p) (source-later s f o p) h (M .sourced p)))
+          (λ r ne. each-all (Source s r) (Source f r) (source-later s f o r) (history s r) (M .sourced r));
+      named = each-step (λ (r : ℕ) (x : History). Each (Name n r) x) s p g lt (grown-named n E s p call A h c (M .named p)) (λ r ne. M .named r);
       bounded = each-step (λ (r : ℕ) (x : History). number x ≤ total f) s p g lt
           (let a = grown-number h call c (total s) (M .bounded p) (carries-le n E s M call) in omega arith)
           (λ r ne. let a = M .bounded r in omega arith);

@@ -1,113 +1,51 @@
 -- What one accepted call stores into any table, made or not, is the table that the rules say.
 use mathlib.Core.Path.{_≡_, refl, sym}
-use mathlib.Core.Bool.{Bool, true, false, not, cond, _&&_}
+use mathlib.Core.Bool.{Bool, true, false, cond, _&&_}
 use mathlib.Core.List.{List, [], _∷_, _++_}
 use Prim.Native.Nat.{ℕ, zero, suc, _+_, _-_, _*_, _≤_, _<_, zero-le}
 use native.Mathlib.Nat.{le-trans, mul-le-mul}
 use native.Mathlib.Omega.{arith}
 use native.Mathlib.Decide.{decLt}
-use lib.Dec.{leb, ltb, eqb}
+use lib.Dec.{leb, eqb}
 use lib.ListN.{length, length-append}
-use borrow.Author.Tests.{eqb-true, eqb-false, leb-true, ltb-true, not-true, not-false}
-use Rattle.rules.specs.Records.{basic, forced, sent, received, History, State, history, number, sends, carried}
+use borrow.Author.Tests.{eqb-true, leb-true, not-false}
+use Rattle.rules.specs.Records.{basic, forced, sent, received, History, State, history, number, sends, carried, hasSend}
 use Rattle.rules.specs.Steps.{Call, checkpoint, send, receipt, forces, carries, added, stepped}
-use Rattle.rules.specs.Calls.{Row, row, first, tableRows}
+use Rattle.rules.specs.Calls.{Row, row, first, tableRows, needed}
 use Rattle.xdr.specs.Words.{word}
-use Rattle.rules.specs.Table.{layout, eventOf, recordsAt, start, sectionAt, recordOk, recordsOk, zerosAt, sectionOk, sectionsOk, decoded, size, inRange, wellLaid}
-use Rattle.theorems.proofs.Histories.{Test, passes, fails, test, holds-held}
-use Rattle.theorems.proofs.Steps.{NoneMet, Numbered, Accepted, grown-length}
+use Rattle.rules.specs.Table.{layout, sectionsOk, decoded, size, inRange, wellLaid}
+use Rattle.theorems.proofs.Histories.{holds-held}
+use Rattle.theorems.proofs.Steps.{NoneMet, Numbered, Message, Accepted, grown-length}
 use Rattle.xdr.proofs.Laws.{Bytes, Small}
 use Rattle.theorems.proofs.Laid.{InRange, Legal, sends-length}
-use Rattle.theorems.proofs.WellLaid.{IsTable, and-left, and-right, sections-each, addedWords, decoded-is, decoded-at, decoded-short, from-beyond}
+use Rattle.theorems.proofs.WellLaid.{IsTable, and-left, and-right, sections-each, section-of, addedWords, decoded-is, decoded-at, decoded-short, from-beyond}
 use Rattle.theorems.proofs.Stores.{headWords, stored, stored-layout}
 
 -- ---- a well laid table's records are within their ranges
-
-record-legal : (n E p kind a b : ℕ) (h : History) → recordOk n E p (sends h) kind a b ≡ true → Legal n E p h → Legal n E p (eventOf kind a b ∷ h)
-record-legal n E p kind a b h ok L = one (test (eqb kind 1)) (test (eqb kind 2)) (test (eqb kind 3)) (test (eqb kind 4))
-  where
-    one : Test (eqb kind 1) → Test (eqb kind 2) → Test (eqb kind 3) → Test (eqb kind 4) → Legal n E p (eventOf kind a b ∷ h)
-    one (passes e) y z u =
-        let o : (leb a (n * E) && eqb b 0) ≡ true = rw e at ok in
-        rw (eqb-true kind 1 e) (leb-true a (n * E) (and-left (leb a (n * E)) (eqb b 0) o), L)
-    one (fails e) (passes y) z u =
-        let o : (leb a (n * E) && eqb b 0) ≡ true = rw (e, y) at ok in
-        rw (eqb-true kind 2 y) (leb-true a (n * E) (and-left (leb a (n * E)) (eqb b 0) o), L)
-    one (fails e) (fails y) (passes z) u =
-        let c1 = ltb a n in
-        let c2 = not (eqb a p) in
-        let c3 = ltb 0 b in
-        let c4 = leb b E in
-        let c5 = eqb b (suc (sends h)) in
-        let o : (c1 && c2 && c3 && c4 && c5) ≡ true = rw (e, y, z) at ok in
-        let o4 = and-left (c1 && c2 && c3 && c4) c5 o in
-        let o2 = and-left (c1 && c2) c3 (and-left (c1 && c2 && c3) c4 o4) in
-        let is = eqb-true b (suc (sends h)) (and-right (c1 && c2 && c3 && c4) c5 o) in
-        let le = leb-true b E (and-right (c1 && c2 && c3) c4 o4) in
-        rw (eqb-true kind 3 z) (ltb-true a n (and-left c1 c2 o2), eqb-false a p (not-true (eqb a p) (and-right c1 c2 o2)), omega arith, L)
-    one (fails e) (fails y) (fails z) (passes u) =
-        let c1 = ltb a n in
-        let c2 = not (eqb a p) in
-        let c3 = ltb 0 b in
-        let c4 = leb b E in
-        let o4 : (c1 && c2 && c3 && c4) ≡ true = rw (e, y, z, u) at ok in
-        let o3 = and-left (c1 && c2 && c3) c4 o4 in
-        let o2 = and-left (c1 && c2) c3 o3 in
-        rw (eqb-true kind 4 u) (
-          ltb-true a n (and-left c1 c2 o2),
-          eqb-false a p (not-true (eqb a p) (and-right c1 c2 o2)),
-          ltb-true 0 b (and-right (c1 && c2) c3 o3),
-          leb-true b E (and-right (c1 && c2 && c3) c4 o4),
-          L,
-        )
-    one (fails e) (fails y) (fails z) (fails u) =
-        let o : false ≡ true = rw (e, y, z, u) at ok in
-        absurd (let x : _≡_ {A = ℕ} 0 1 = cc in omega arith)
-
-records-legal : (n E : ℕ) (w : ℕ → ℕ) (p at i : ℕ) → recordsOk n E w p at i ≡ true → Legal n E p (recordsAt w at i)
-records-legal n E w p at zero ok = tt
-records-legal n E w p at (suc i) ok =
-    let k = at + 3 * i in
-    let h = recordsAt w at i in
-    let t = recordOk n E p (sends h) (w k) (w (k + 1)) (w (k + 2)) in
-    record-legal n E p (w k) (w (k + 1)) (w (k + 2)) h (and-right (recordsOk n E w p at i) t ok)
-    (records-legal n E w p at i (and-left (recordsOk n E w p at i) t ok))
-
-section-legal : (n E : ℕ) (w : ℕ → ℕ) (p : ℕ) → sectionOk n E w p ≡ true → Legal n E p (sectionAt w E p)
-section-legal n E w p ok =
-    let at = start E p in
-    let c = w at in
-    let h = recordsAt w (at + 3) c in
-    let t1 = leb c E in
-    let t2 = recordsOk n E w p (at + 3) c in
-    let t3 = eqb (w (at + 1)) (number h) in
-    let t4 = eqb (w (at + 2)) (sends h) in
-    let t5 = zerosAt w (at + 3 + 3 * c) (3 * (E - c)) in
-    records-legal n E w p (at + 3) c (and-right t1 t2 (and-left (t1 && t2) t3 (and-left (t1 && t2 && t3) t4 (and-left (t1 && t2 && t3 && t4) t5 ok))))
 
 pub table-legal : (n E : ℕ) (t : List ℕ) → IsTable n E t → (p : ℕ) → Legal n E p (history (decoded t) p)
 table-legal n E t T p = go (decLt p n)
   where
     go : Dec (p < n) → Legal n E p (history (decoded t) p)
-    go (yes lt) = rw (decoded-at n E t T p lt) (section-legal n E (word t) p (sections-each n E (word t) n (T .laid) p lt))
+    go (yes lt) = rw (decoded-at n E t T p lt) (section-of n E (word t) p (sections-each n E (word t) n (T .laid) p lt) .legal)
     go (no l) = rw (decoded-is n E t T, from-beyond (word t) E 0 n p (omega arith)) tt
 
 pub legal-number : (n E p : ℕ) (h : History) → Legal n E p h → number h ≤ n * E
 legal-number n E p [] L = zero-le
 legal-number n E p (basic m ∷ h) L = L .0
 legal-number n E p (forced m ∷ h) L = L .0
-legal-number n E p (sent q ∷ h) L = legal-number n E p h (L .3)
-legal-number n E p (received q k ∷ h) L = legal-number n E p h (L .4)
+legal-number n E p (sent q ∷ h) L = legal-number n E p h (L .1)
+legal-number n E p (received q k ∷ h) L = legal-number n E p h (L .1)
 
 pub legal-carried : (n E p : ℕ) (h : History) (k : ℕ) → Legal n E p h → carried h k ≤ n * E
 legal-carried n E p [] k L = zero-le
 legal-carried n E p (basic m ∷ h) k L = legal-carried n E p h k (L .1)
 legal-carried n E p (forced m ∷ h) k L = legal-carried n E p h k (L .1)
-legal-carried n E p (received q j ∷ h) k L = legal-carried n E p h k (L .4)
-legal-carried n E p (sent q ∷ h) k L = go (eqb k (suc (sends h))) (legal-carried n E p h k (L .3))
+legal-carried n E p (received q j ∷ h) k L = legal-carried n E p h k (L .1)
+legal-carried n E p (sent q ∷ h) k L = go (eqb k (suc (sends h))) (legal-carried n E p h k (L .1))
   where
     go : (b : Bool) → carried h k ≤ n * E → cond b (number h) (carried h k) ≤ n * E
-    go true r = legal-number n E p h (L .3)
+    go true r = legal-number n E p h (L .1)
     go false r = r
 
 -- ---- what an accepted call stores fits
@@ -118,50 +56,28 @@ module _ (n E : ℕ) (d : InRange n E) (s : State) (short : (q : ℕ) → length
 
   small-call : (p : ℕ) (call : Call) → Accepted n E s p call
       → Small (headWords (added (history s p) call (carries s call)) (history s p)) × Small (addedWords (added (history s p) call (carries s call)) (history s p))
-  small-call p checkpoint A =
-      let a = legal-number n E p (history s p) (L p) in
-      let b = product in
-      let c = sends-length (history s p) in
-      let f = A .free in
-      let g = d .records in
-      (omega arith, omega arith)
-  small-call p (send q) A =
-      let a = legal-number n E p (history s p) (L p) in
-      let b = product in
-      let c = sends-length (history s p) in
-      let f = A .free in
-      let g = d .records in
-      let m = A .message .0 in
-      let x = d .processes in
-      (omega arith, omega arith)
-  small-call p (receipt q k) A = go (forces h (carried (history s q) k)) (A .free)
+  small-call p call A = go call (A .free) (A .message) (le-trans (legal-number n E p h (L p)) product) (sends-length h) (d .processes) (d .records)
     where
       h : History
       h = history s p
 
-      go : (b : Bool) → length (history s p) + cond b 2 1 ≤ E
-          → Small (headWords (received q k ∷ cond b (forced (carried (history s q) k) ∷ []) []) (history s p))
-          × Small (addedWords (received q k ∷ cond b (forced (carried (history s q) k) ∷ []) []) (history s p))
-      go true f =
-          let a = legal-carried n E q (history s q) k (L q) in
-          let b = product in
-          let c = sends-length (history s p) in
-          let g = d .records in
-          let m = A .message .0 in
-          let x = d .processes in
-          let y = holds-held (history s q) p k (A .message .2) .counted in
-          let z = le-trans (sends-length (history s q)) (short q) in
-          (omega arith, omega arith)
-      go false f =
-          let a = legal-number n E p (history s p) (L p) in
-          let b = product in
-          let c = sends-length (history s p) in
-          let g = d .records in
-          let m = A .message .0 in
-          let x = d .processes in
-          let y = holds-held (history s q) p k (A .message .2) .counted in
-          let z = le-trans (sends-length (history s q)) (short q) in
-          (omega arith, omega arith)
+      sent-few : (q k : ℕ) → hasSend (history s q) p k ≡ true → k ≤ E
+      sent-few q k e = le-trans (holds-held (history s q) p k e .counted) (le-trans (sends-length (history s q)) (short q))
+
+      received-small : (q k : ℕ) (b : Bool) → length h + cond b 2 1 ≤ E → q < n → k ≤ E → carried (history s q) k ≤ 16384
+          → number h ≤ 16384 → sends h ≤ length h → n ≤ 16 → E ≤ 1024
+          → Small (headWords (received q k ∷ cond b (forced (carried (history s q) k) ∷ []) []) h)
+          × Small (addedWords (received q k ∷ cond b (forced (carried (history s q) k) ∷ []) []) h)
+      received-small q k true f m y c a z x g = (omega arith, omega arith)
+      received-small q k false f m y c a z x g = (omega arith, omega arith)
+
+      go : (call : Call) → length h + needed h call (carries s call) ≤ E → Message n s p call → number h ≤ 16384 → sends h ≤ length h → n ≤ 16 → E ≤ 1024
+          → Small (headWords (added h call (carries s call)) h) × Small (addedWords (added h call (carries s call)) h)
+      go checkpoint f m a z x g = (omega arith, omega arith)
+      go (send q) f m a z x g = let y = m .0 in (omega arith, omega arith)
+      go (receipt q k) f m a z x g =
+          received-small q k (forces h (carried (history s q) k)) f (m .0) (sent-few q k (m .2))
+          (le-trans (legal-carried n E q (history s q) k (L q)) product) a z x g
 
 -- ---- the call
 

@@ -84,7 +84,7 @@ unfolding check
 accepts-met n E s p call area e =
     accepted-met n E s p call (length area) (eqb-true (first (stepRows n E s p call (length area))) 0 e)
 
--- ---- a property of states that every accepted call keeps hasSend after a list
+-- ---- a property of states that every accepted call keeps holds after a list
 
 pub after-keeps : (P : State → Type 0) (n E : ℕ)
     → ((s : State) (p : ℕ) (call : Call) → P s → Accepted n E s p call → P (stepped s p call))

@@ -1,6 +1,6 @@
--- A well laid table is the layout of the records that it hasSend; and how a section's words change when a record is added.
+-- A well laid table is the layout of the records that it holds; and how a section's words change when a record is added.
 use mathlib.Core.Path.{_≡_, refl, sym, ap, _∙_, subst}
-use mathlib.Core.Logic.{_⊎_, inl, inr}
+use mathlib.Core.Logic.{_≢_, _⊎_, inl, inr}
 use mathlib.Core.Bool.{Bool, true, false, not, _&&_, and-eq-true-iff}
 use mathlib.Core.List.{List, [], _∷_, _++_, append-nil, append-assoc}
 use Prim.Native.Nat.{ℕ, zero, suc, _+_, _-_, _*_, _≤_, _<_, zero-le}
@@ -9,14 +9,14 @@ use native.Mathlib.Omega.{arith}
 use native.Mathlib.Decide.{decLt}
 use lib.Dec.{leb, ltb, eqb}
 use lib.ListN.{length, replicate, length-append, length-replicate, getD-replicate}
-use borrow.Author.Tests.{eqb-true, leb-true}
+use borrow.Author.Tests.{eqb-false, ltb-true, not-true, eqb-true, leb-true}
 use Rattle.rules.specs.Records.{Event, History, State, history, number, sends}
 use Rattle.xdr.specs.Words.{word, bytes}
 use Rattle.rules.specs.Table.{recordWords, usedWords, sectionWords, sectionsWords, layout, eventOf, recordsAt, start, sectionAt, sectionsFrom, recordOk, recordsOk, zerosAt, sectionOk, sectionsOk, decoded, size}
 use Rattle.theorems.proofs.Histories.{Test, passes, fails, test}
 use Rattle.xdr.proofs.Laws.{Bytes, bytes-of}
 use Rattle.theorems.proofs.Words.{At, at-left, at-right, at-append}
-use Rattle.theorems.proofs.Laid.{record-length, used-length, section-length, next, sections-length}
+use Rattle.theorems.proofs.Laid.{Law, Legal, record-length, used-length, section-length, next, sections-length}
 
 -- sections one after the other
 pub sections-join : (E : ℕ) (w : ℕ → ℕ) (s : State) (p : ℕ) → ((q : ℕ) → length (history s q) ≤ E)
@@ -62,21 +62,42 @@ pub records-length : (w : ℕ → ℕ) (at i : ℕ) → length (recordsAt w at i
 records-length w at zero = refl
 records-length w at (suc i) = ap suc (records-length w at i)
 
--- a record that passes its test has the words that it was read from
-record-words : (n E p kind a b : ℕ) (h : History) → recordOk n E p (sends h) kind a b ≡ true → recordWords (eventOf kind a b) h ≡ kind ∷ a ∷ b ∷ []
-record-words n E p kind a b h ok = one (test (eqb kind 1)) (test (eqb kind 2)) (test (eqb kind 3)) (test (eqb kind 4))
+-- a record that passes its test has the words that it was read from, and is within its ranges
+pub record-read : (n E p kind a b : ℕ) (h : History) → recordOk n E p (sends h) kind a b ≡ true
+    → (recordWords (eventOf kind a b) h ≡ kind ∷ a ∷ b ∷ []) × Law n E p (eventOf kind a b) h
+record-read n E p kind a b h ok = one (test (eqb kind 1)) (test (eqb kind 2)) (test (eqb kind 3)) (test (eqb kind 4))
   where
-    one : Test (eqb kind 1) → Test (eqb kind 2) → Test (eqb kind 3) → Test (eqb kind 4) → recordWords (eventOf kind a b) h ≡ kind ∷ a ∷ b ∷ []
-    one (passes e) y z u =
-        let o : (leb a (n * E) && eqb b 0) ≡ true = rw e at ok in
-        rw (eqb-true kind 1 e, eqb-true b 0 (and-right (leb a (n * E)) (eqb b 0) o))
-    one (fails e) (passes y) z u =
-        let o : (leb a (n * E) && eqb b 0) ≡ true = rw (e, y) at ok in
-        rw (eqb-true kind 2 y, eqb-true b 0 (and-right (leb a (n * E)) (eqb b 0) o))
+    -- a checkpoint
+    saves : (leb a (n * E) && eqb b 0) ≡ true → (a ≤ n * E) × (b ≡ 0)
+    saves o =
+        (leb-true a (n * E) (and-left (leb a (n * E)) (eqb b 0) o), eqb-true b 0 (and-right (leb a (n * E)) (eqb b 0) o))
+
+    -- a send or a receipt
+    names : (ltb a n && not (eqb a p) && ltb 0 b && leb b E) ≡ true → (a < n) × (a ≢ p) × (0 < b) × (b ≤ E)
+    names o =
+        let c1 = ltb a n in
+        let c2 = not (eqb a p) in
+        let c3 = ltb 0 b in
+        let o3 = and-left (c1 && c2 && c3) (leb b E) o in
+        let o2 = and-left (c1 && c2) c3 o3 in (
+          ltb-true a n (and-left c1 c2 o2),
+          eqb-false a p (not-true (eqb a p) (and-right c1 c2 o2)),
+          ltb-true 0 b (and-right (c1 && c2) c3 o3),
+          leb-true b E (and-right (c1 && c2 && c3) (leb b E) o),
+        )
+
+    one : Test (eqb kind 1) → Test (eqb kind 2) → Test (eqb kind 3) → Test (eqb kind 4)
+        → (recordWords (eventOf kind a b) h ≡ kind ∷ a ∷ b ∷ []) × Law n E p (eventOf kind a b) h
+    one (passes e) y z u = let o = saves (rw e at ok) in rw (eqb-true kind 1 e, o .1) (refl, o .0)
+    one (fails e) (passes y) z u = let o = saves (rw (e, y) at ok) in rw (eqb-true kind 2 y, o .1) (refl, o .0)
     one (fails e) (fails y) (passes z) u =
-        let o : (ltb a n && not (eqb a p) && ltb 0 b && leb b E && eqb b (suc (sends h))) ≡ true = rw (e, y, z) at ok in
-        rw (eqb-true kind 3 z, eqb-true b (suc (sends h)) (and-right (ltb a n && not (eqb a p) && ltb 0 b && leb b E) (eqb b (suc (sends h))) o))
-    one (fails e) (fails y) (fails z) (passes u) = rw (eqb-true kind 4 u)
+        let t = ltb a n && not (eqb a p) && ltb 0 b && leb b E in
+        let o : (t && eqb b (suc (sends h))) ≡ true = rw (e, y, z) at ok in
+        let is = eqb-true b (suc (sends h)) (and-right t (eqb b (suc (sends h))) o) in
+        let m = names (and-left t (eqb b (suc (sends h))) o) in
+        let le = m .3 in
+        rw (eqb-true kind 3 z) ((rw is), (m .0, m .1, omega arith))
+    one (fails e) (fails y) (fails z) (passes u) = rw (eqb-true kind 4 u) (refl, names (rw (e, y, z, u) at ok))
     one (fails e) (fails y) (fails z) (fails u) =
         let o : false ≡ true = rw (e, y, z, u) at ok in
         absurd (let x : _≡_ {A = ℕ} 0 1 = cc in omega arith)
@@ -87,7 +108,7 @@ used-of n E w p at (suc i) ok =
     at-append w at (usedWords h) (recordWords e h)
     (used-of n E w p at i (and-left (recordsOk n E w p at i) (recordOk n E p (sends h) (w k) (w (k + 1)) (w (k + 2))) ok))
     k (let l = used-length h in let m = records-length w at i in omega arith)
-    (rw (record-words n E p (w k) (w (k + 1)) (w (k + 2)) h (and-right (recordsOk n E w p at i) (recordOk n E p (sends h) (w k) (w (k + 1)) (w (k + 2))) ok)) three)
+    (rw (record-read n E p (w k) (w (k + 1)) (w (k + 2)) h (and-right (recordsOk n E w p at i) (recordOk n E p (sends h) (w k) (w (k + 1)) (w (k + 2))) ok) .0) three)
   where
     h : History
     h = recordsAt w at i
@@ -129,7 +150,23 @@ section-words E w at h le a b c used zeros =
     three (suc (suc zero)) lt = c
     three (suc (suc (suc j))) lt = absurd (omega arith)
 
-section-of : (n E : ℕ) (w : ℕ → ℕ) (p : ℕ) → sectionOk n E w p ≡ true → (length (sectionAt w E p) ≤ E) × At w (start E p) (sectionWords E (sectionAt w E p))
+records-legal : (n E : ℕ) (w : ℕ → ℕ) (p at i : ℕ) → recordsOk n E w p at i ≡ true → Legal n E p (recordsAt w at i)
+records-legal n E w p at zero ok = tt
+records-legal n E w p at (suc i) ok =
+    let k = at + 3 * i in
+    let h = recordsAt w at i in
+    let t = recordOk n E p (sends h) (w k) (w (k + 1)) (w (k + 2)) in (
+      record-read n E p (w k) (w (k + 1)) (w (k + 2)) h (and-right (recordsOk n E w p at i) t ok) .1,
+      records-legal n E w p at i (and-left (recordsOk n E w p at i) t ok),
+    )
+
+-- what the test of section p says of the history that is read from it
+pub record SectionOf (n E : ℕ) (w : ℕ → ℕ) (p : ℕ) : Type 0 where
+  pub short : length (sectionAt w E p) ≤ E
+  pub words : At w (start E p) (sectionWords E (sectionAt w E p))
+  pub legal : Legal n E p (sectionAt w E p)
+
+pub section-of : (n E : ℕ) (w : ℕ → ℕ) (p : ℕ) → sectionOk n E w p ≡ true → SectionOf n E w p
 section-of n E w p ok =
     let at = start E p in
     let c = w at in
@@ -144,14 +181,17 @@ section-of n E w p ok =
     let o2 = and-left (t1 && t2) t3 o3 in
     let l : length h ≡ c = records-length w (at + 3) c in
     let le : c ≤ E = leb-true c E (and-left t1 t2 o2) in
-    let le′ : length h ≤ E = omega arith in (
-      le′,
-      section-words E w at h le′ (sym l)
+    let le′ : length h ≤ E = omega arith in
+    let ok′ = and-right t1 t2 o2 in
+    record {
+      short = le′;
+      words = section-words E w at h le′ (sym l)
           (eqb-true (w (at + 1)) (number h) (and-right (t1 && t2) t3 o3))
           (eqb-true (w (at + 2)) (sends h) (and-right (t1 && t2 && t3) t4 o4))
-          (used-of n E w p (at + 3) c (and-right t1 t2 o2))
-          (rw l (zeros-of w (at + 3 + 3 * c) (3 * (E - c)) (and-right (t1 && t2 && t3 && t4) t5 ok))),
-    )
+          (used-of n E w p (at + 3) c ok′)
+          (rw l (zeros-of w (at + 3 + 3 * c) (3 * (E - c)) (and-right (t1 && t2 && t3 && t4) t5 ok)));
+      legal = records-legal n E w p (at + 3) c ok′;
+    }
 
 pub sections-each : (n E : ℕ) (w : ℕ → ℕ) (m : ℕ) → sectionsOk n E w m ≡ true → (p : ℕ) → p < m → sectionOk n E w p ≡ true
 sections-each n E w zero ok p lt = absurd (not-suc-le-zero lt)
@@ -198,13 +238,13 @@ module _ (n E : ℕ) (t : List ℕ) (T : IsTable n E t) where
   -- each section's words are those of the history that is read from it
   pub decoded-words : (p : ℕ) → p < n → At (word t) (start E p) (sectionWords E (history (decoded t) p))
   decoded-words p lt =
-      subst (λ (h : History). At (word t) (start E p) (sectionWords E h)) (sym (decoded-at p lt)) (section-of n E (word t) p (sections-each n E (word t) n (T .laid) p lt) .1)
+      subst (λ (h : History). At (word t) (start E p) (sectionWords E h)) (sym (decoded-at p lt)) (section-of n E (word t) p (sections-each n E (word t) n (T .laid) p lt) .words)
 
   pub decoded-short : (p : ℕ) → length (history (decoded t) p) ≤ E
   decoded-short p = go (decLt p n)
     where
       go : Dec (p < n) → length (history (decoded t) p) ≤ E
-      go (yes lt) = rw (decoded-at p lt) (section-of n E (word t) p (sections-each n E (word t) n (T .laid) p lt) .0)
+      go (yes lt) = rw (decoded-at p lt) (section-of n E (word t) p (sections-each n E (word t) n (T .laid) p lt) .short)
       go (no l) = rw (decoded-is, from-beyond (word t) E 0 n p (omega arith)) zero-le
 
   pub decoded-layout : t ≡ layout n E (decoded t)
