@@ -1,5 +1,5 @@
 -- One record more in the scan for a position.
-use mathlib.Core.Path.{_≡_, refl, _∙_, subst}
+use mathlib.Core.Path.{_≡_, refl, sym, _∙_, subst}
 use mathlib.Core.Bool.{Bool, true, false, not, cond, _&&_, _||_}
 use mathlib.Core.List.{[]}
 use Prim.Native.Nat.{ℕ, _+_, _*_, _≤_}
@@ -12,15 +12,14 @@ use Rattle.theorems.proofs.WellLaid.{records-length}
 use Rattle.theorems.proofs.Lines.{reached, numbered-cons, numbered-le}
 use Rattle.theorems.proofs.Scans.{least-event}
 
-module _ (N : ℕ) (w : ℕ → ℕ) (at i : ℕ) where
-  pub numbered-next : numbered N (recordsAt w at (i + 1)) ≡ cond (reached N (recordsAt w at i)) (numbered N (recordsAt w at i)) (i + 1)
-  numbered-next =
-      rw (add-one)
-      (numbered-cons N (eventOf (w (at + 3 * i)) (w (at + 3 * i + 1)) (w (at + 3 * i + 2))) (recordsAt w at i) ∙ rw (records-length w at i))
+module _ (N : ℕ) (w : ℕ → ℕ) (at i : ℕ) {f : Bool} (e : f ≡ reached N (recordsAt w at i)) where
+  pub position-next : {r s : ℕ} → r ≡ numbered N (recordsAt w at i) → s ≡ cond f r (i + 1) → s ≡ numbered N (recordsAt w at (i + 1))
+  position-next g s = s ∙ rw (e, g, add-one i) (sym (numbered-cons N (eventOf (w (at + 3 * i)) (w (at + 3 * i + 1)) (w (at + 3 * i + 2))) (recordsAt w at i) ∙ rw (records-length w at i)))
 
-  pub reached-next : reached N (recordsAt w at (i + 1))
-      ≡ (reached N (recordsAt w at i) || (not (eqb (w (at + 3 * i)) 4 || eqb (w (at + 3 * i)) 3) && leb N (w (at + 3 * i + 1))))
-  reached-next = rw (add-one, least-event) (swap (not (eqb (w (at + 3 * i)) 4 || eqb (w (at + 3 * i)) 3) && leb N (w (at + 3 * i + 1))) (reached N (recordsAt w at i)))
+  pub reached-next : {kind a : ℕ} → kind ≡ w (at + 3 * i) → a ≡ w (at + 3 * i + 1)
+      → (f || (not (eqb kind 4 || eqb kind 3) && leb N a)) ≡ reached N (recordsAt w at (i + 1))
+  reached-next {kind} {a} x y =
+      swap f (not (eqb kind 4 || eqb kind 3) && leb N a) ∙ rw (e, x, y, add-one i, least-event N (w (at + 3 * i)) (w (at + 3 * i + 1)) (w (at + 3 * i + 2)))
     where
       swap : (x y : Bool) → (x || y) ≡ (y || x)
       swap true true = refl

@@ -1,9 +1,8 @@
-use Rattle.theorems.proofs.Scans.{number-event, sends-event, sends-at-most}
+use mathlib.Core.Path.{_≡_, refl, ap, _∙_}
+use Rattle.theorems.proofs.Scans.{laid-next, number-next, sends-next, sends-at-most}
 use native.Mathlib.Omega.{arith}
 use Rattle.layout.proofs.Laws.{product}
-use mathlib.Core.Path.{_≡_, refl}
 use Prim.Native.Nat.{_+_, _-_, _≤_}
-use native.Mathlib.Numerals.{add-one}
 use Rattle.xdr.specs.Words.{word}
 use Rattle.rules.specs.Table.{recordsAt, recordsOk}
 use Rattle.rules.specs.Records.{number, sends}
@@ -13,8 +12,8 @@ use Rattle.layout.proofs.used.Tie as tie
 
 abbrev Inv-loop : tie.InvT-loop
 Inv-loop t n e p at c most s₀ i₀ s i =
-    (s .ok ≡ recordsOk n e (word t) p at i) × ((s .number ≡ number (recordsAt (word t) at i)) × ((s .sends ≡ sends (recordsAt (word
-    t) at i)) × ((i ≤ c) × (s .sends ≤ i))))
+    (s .ok ≡ recordsOk n e (word t) p at i) × (s .number ≡ number (recordsAt (word t) at i)) × (s .sends ≡ sends (recordsAt (word t) at i))
+    × (i ≤ c) × (s .sends ≤ i)
 
 abbrev μ-loop : tie.MeasureT-loop
 μ-loop t n e p at c most s₀ i₀ s i = c - i
@@ -23,7 +22,7 @@ mul-most : tie.Need-mul-most Inv-loop μ-loop
 mul-most c = omega (arith, product (c .before .args .n) (c .before .args .e) (omega arith) (omega arith))
 
 loop-holds : tie.Need-loop-holds Inv-loop μ-loop
-loop-holds c = (refl, (refl, (refl, search needs)))
+loop-holds c = (refl, refl, refl, search needs, search needs)
 
 mul-w : tie.Need-mul-w Inv-loop μ-loop
 mul-w c = search needs
@@ -57,21 +56,31 @@ loop-less c = search needs
 
 loop-again : tie.Need-loop-again Inv-loop μ-loop
 loop-again c =
-    let c5 = c .before .before .before .before .before in
-    let s = c5 in
+    let s = c .before .before .before .before .before in
     let a = s .before .before .args in
     let w = word (a .t .now) in
-    let sent : c .next .result .sends ≡ sends (recordsAt w (a .at) (s .loop .i + 1)) = rw (add-one, sends-event) (cc) in (
-      rw add-one (cc),
-      (
-        rw (add-one, number-event)
-            (cc),
-        (sent, (search needs, omega (arith, sends-at-most w (a .at) (s .loop .i + 1)))),
-      ),
+    let i = s .loop .i in
+    let kind = c .before .before .before .size .ensures .0 in
+    let first = c .before .before .size2 .ensures .0 in
+    let inv = s .loop .inv in
+    let sent = sends-next w (a .at) i kind (inv .2) (c .next .ensures .2) in (
+      laid-next w (a .at) i kind first (a .n) (a .e) (a .p) (c .before .size3 .ensures .0) (inv .0) (inv .2) (c .next .ensures .0),
+      number-next w (a .at) i kind first (inv .1) (c .next .ensures .1),
+      sent,
+      search needs,
+      omega (arith, sends-at-most w (a .at) (i + 1)),
     )
 
 returns : tie.Need-returns Inv-loop μ-loop
-returns c = let h : c .before .loop .i ≡ c .before .before .before .args .c = omega arith in (cc, cc, cc)
+returns c =
+    let a = c .before .before .before .args in
+    let w = word (a .t .now) in
+    let inv = c .before .loop .inv in
+    let h : c .before .loop .i ≡ a .c = omega arith in (
+      inv .0 ∙ ap (λ j. recordsOk (a .n) (a .e) w (a .p) (a .at) j) h,
+      inv .1 ∙ ap (λ j. number (recordsAt w (a .at) j)) h,
+      inv .2 ∙ ap (λ j. sends (recordsAt w (a .at) j)) h,
+    )
 
 pub used-spec : {M : Type 1} → statement M
 used-spec =

@@ -1,11 +1,10 @@
+use mathlib.Core.Path.{_≡_, refl, ap, _∙_}
+use Rattle.theorems.proofs.Scans.{number-next, sends-next, carried-next, destination-next, sends-at-most}
 use native.Mathlib.Omega.{arith}
-use mathlib.Core.Path.{_≡_, refl}
-use native.Mathlib.Numerals.{add-one}
 use Rattle.xdr.specs.Words.{word}
 use Rattle.rules.specs.Table.{recordsAt}
 use Prim.Native.Nat.{_+_, _-_, _≤_}
 use Rattle.rules.specs.Records.{number, sends, carried, destination}
-use Rattle.theorems.proofs.Scans.{number-event, sends-event, carried-event, destination-event, sends-at-most}
 use borrow.Author.Needs.{needs}
 use Rattle.scans.proofs.find_send.Statement.{statement}
 use Rattle.scans.proofs.find_send.Tie as tie
@@ -47,21 +46,33 @@ loop-less c = search needs
 
 loop-again : tie.Need-loop-again Inv-loop μ-loop
 loop-again c =
-    let c4 = c .before .before .before .before in
-    let s = c4 in
+    let s = c .before .before .before .before in
     let a = s .before .before .args in
     let w = word (a .t .now) in
-    let sent : c .sent-next .result .sends ≡ sends (recordsAt w (a .at) (s .loop .i + 1)) = rw (add-one, sends-event) (cc) in (
-      rw (add-one, number-event) (cc),
+    let i = s .loop .i in
+    let kind = c .before .before .get .ensures in
+    let first = c .before .get2 .ensures in
+    let inv = s .loop .inv in
+    let next = c .sent-next .ensures in
+    let sent = sends-next w (a .at) i kind (inv .1) (next .1) in (
+      number-next w (a .at) i kind first (inv .0) (next .0),
       sent,
-      rw (add-one, carried-event) (cc),
-      rw (add-one, destination-event) (cc),
+      carried-next w (a .at) i kind (a .k) (inv .0) (inv .1) (inv .2) (next .2),
+      destination-next w (a .at) i kind first (a .k) (inv .1) (inv .3) (next .3),
       search needs,
-      omega (arith, sends-at-most w (a .at) (s .loop .i + 1)),
+      omega (arith, sends-at-most w (a .at) (i + 1)),
     )
 
 returns : tie.Need-returns Inv-loop μ-loop
-returns c = let h : c .before .loop .i ≡ c .before .before .before .args .c = omega arith in (cc, cc, cc)
+returns c =
+    let a = c .before .before .before .args in
+    let w = word (a .t .now) in
+    let inv = c .before .loop .inv in
+    let h : c .before .loop .i ≡ a .c = omega arith in (
+      inv .1 ∙ ap (λ j. sends (recordsAt w (a .at) j)) h,
+      inv .2 ∙ ap (λ j. carried (recordsAt w (a .at) j) (a .k)) h,
+      inv .3 ∙ ap (λ j. destination (recordsAt w (a .at) j) (a .k)) h,
+    )
 
 pub find-send-spec : {M : Type 1} → statement M
 find-send-spec =

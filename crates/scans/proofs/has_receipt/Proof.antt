@@ -1,11 +1,10 @@
+use mathlib.Core.Path.{_≡_, refl, ap, _∙_}
+use Rattle.theorems.proofs.Scans.{receipt-next}
 use native.Mathlib.Omega.{arith}
-use mathlib.Core.Path.{_≡_, refl}
-use native.Mathlib.Numerals.{add-one}
 use Rattle.xdr.specs.Words.{word}
 use Rattle.rules.specs.Table.{recordsAt}
 use Prim.Native.Nat.{_-_, _≤_}
 use Rattle.rules.specs.Records.{hasReceipt}
-use Rattle.theorems.proofs.Scans.{receipt-event}
 use borrow.Author.Needs.{needs}
 use Rattle.scans.proofs.has_receipt.Statement.{statement}
 use Rattle.scans.proofs.has_receipt.Tie as tie
@@ -47,10 +46,16 @@ loop-less : tie.Need-loop-less Inv-loop μ-loop
 loop-less c = search needs
 
 loop-again : tie.Need-loop-again Inv-loop μ-loop
-loop-again c = (rw (add-one, receipt-event) (cc), search needs)
+loop-again c =
+    let s = c .before .before .before .before in
+    let a = s .before .before .args in
+    (receipt-next (word (a .t .now)) (a .at) (s .loop .i) (c .before .before .size .ensures .0) (c .before .size2 .ensures .0) (a .q) (a .k) (c .size3 .ensures .0) (s .loop .inv .0), search needs)
 
 returns : tie.Need-returns Inv-loop μ-loop
-returns c = let h : c .before .loop .i ≡ c .before .before .before .args .c = omega arith in cc
+returns c =
+    let a = c .before .before .before .args in
+    let h : c .before .loop .i ≡ a .c = omega arith in
+    c .before .loop .inv .0 ∙ ap (λ j. hasReceipt (recordsAt (word (a .t .now)) (a .at) j) (a .q) (a .k)) h
 
 pub has-receipt-spec : {M : Type 1} → statement M
 has-receipt-spec =

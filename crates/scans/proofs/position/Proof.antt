@@ -1,11 +1,11 @@
+use mathlib.Core.Path.{_≡_, refl, ap, _∙_}
 use Rattle.theorems.proofs.Lines.{reached as reachedBy}
 use native.Mathlib.Omega.{arith}
-use mathlib.Core.Path.{_≡_, refl}
 use Prim.Native.Nat.{_-_, _≤_}
 use Rattle.xdr.specs.Words.{word}
 use Rattle.rules.specs.Table.{recordsAt}
 use Rattle.rules.specs.Lines.{numbered}
-use Rattle.scans.proofs.Laws.{numbered-none, numbered-next, reached-next, position-le}
+use Rattle.scans.proofs.Laws.{numbered-none, position-next, reached-next, position-le}
 use borrow.Author.Needs.{needs}
 use Rattle.scans.proofs.position.Statement.{statement}
 use Rattle.scans.proofs.position.Tie as tie
@@ -48,14 +48,24 @@ loop-less : tie.Need-loop-less Inv-loop μ-loop
 loop-less c = search needs
 
 loop-again : tie.Need-loop-again Inv-loop μ-loop
-loop-again c = (rw reached-next (cc), rw numbered-next (cc), search needs)
+loop-again c =
+    let s = c .before .before .before .before in
+    let a = s .before .before .args in
+    let w = word (a .t .now) in
+    let i = s .loop .i in
+    let inv = s .loop .inv in (
+      reached-next (a .m) w (a .at) i (inv .0) (c .before .before .size .ensures .0) (c .size2 .ensures .0),
+      position-next (a .m) w (a .at) i (inv .0) (inv .1) (c .before .pick .ensures),
+      search needs,
+    )
 
 returns : tie.Need-returns Inv-loop μ-loop
 returns c =
-    let c3 = c .before .before .before in
-    let h : c .before .loop .i ≡ c3 .args .c = omega arith in
-    let e : c .before .loop .r ≡ numbered (c3 .args .m) (recordsAt (word (c3 .args .t .now)) (c3 .args .at) (c3 .args .c)) = cc in
-    (e, omega (arith, position-le (c3 .args .m) (word (c3 .args .t .now)) (c3 .args .at) (c3 .args .c)))
+    let a = c .before .before .before .args in
+    let w = word (a .t .now) in
+    let h : c .before .loop .i ≡ a .c = omega arith in
+    let e = c .before .loop .inv .1 ∙ ap (λ j. numbered (a .m) (recordsAt w (a .at) j)) h in
+    (e, omega (arith, position-le (a .m) w (a .at) (a .c)))
 
 pub position-spec : {M : Type 1} → statement M
 position-spec =
