@@ -1,18 +1,20 @@
 -- Bounds of the table's dimensions, a record's test without branches, the tests of a section and a table put together, and a fresh
 -- table.
-use mathlib.Core.Path.{_≡_, refl, sym}
+use mathlib.Core.Path.{_≡_, refl, sym, _∙_}
 use mathlib.Core.Logic.{_≢_}
 use mathlib.Core.List.{List, [], _∷_}
 use mathlib.Core.Bool.{Bool, true, false, not, _&&_, _||_}
-use Prim.Native.Nat.{ℕ, suc, _+_, _-_, _*_, _≤_, _<_}
+use Prim.Native.Nat.{ℕ, zero, suc, _+_, _-_, _*_, _≤_, _<_}
 use native.Mathlib.Nat.{mul-le-mul}
 use native.Mathlib.Numerals.{add-one}
 use lib.Dec.{eqb, leb, ltb}
-use lib.ListN.{length, replicate}
-use borrow.Author.Tests.{eqb-true, le-leb, lt-leb, lt-ltb, le-ltb, eq-eqb, ne-eqb}
+use lib.ListN.{length, getD, replicate}
+use native.Mathlib.Omega.{arith}
+use borrow.Author.Tests.{eqb-true, eqb-false, le-leb, lt-leb, lt-ltb, le-ltb, eq-eqb, ne-eqb}
 use Rattle.xdr.specs.Words.{word, putWords}
 use Rattle.rules.specs.Records.{number, sends}
 use Rattle.rules.specs.Table.{inRange, size, start, recordsAt, recordOk, recordsOk, zerosAt, sectionOk, sectionsOk, wellLaid}
+use Rattle.layout.specs.Zeros.{zeroBytes}
 use Rattle.rules.specs.Calls.{outcome, first, tableRows, freshOn}
 use Rattle.theorems.proofs.OneCall.{in-range}
 use Rattle.theorems.proofs.Fresh.{fresh-layout}
@@ -53,6 +55,55 @@ record-fold n e most p k kind a b m = rw (m, add-one) (one (test (eqb kind 1)) (
     one (fails x) (fails y) (passes z) u = rw (eqb-true kind 3 z) (moved (eqb b (suc k)) (ltb a n) (not (eqb a p)) (ltb 0 b) (leb b e))
     one (fails x) (fails y) (fails z) (passes u) = rw (eqb-true kind 4 u)
     one (fails x) (fails y) (fails z) (fails u) = rw (x, y, z, u)
+
+-- ---- unused words
+
+-- one more byte, and one more section
+pub zeros-next : (t : List ℕ) (i m : ℕ) {j : ℕ} {f : Bool} → f ≡ zeroBytes t i m → j ≡ i + m → (f && eqb (getD t j 0) 0) ≡ zeroBytes t i (m + 1)
+zeros-next t i m e j = rw (e, j, add-one m)
+
+pub sections-next : (n e : ℕ) (w : ℕ → ℕ) (p : ℕ) {f g : Bool} → f ≡ sectionsOk n e w p → g ≡ sectionOk n e w p → (f && g) ≡ sectionsOk n e w (p + 1)
+sections-next n e w p f g = rw (f, g, add-one p)
+
+-- four bytes are 0 exactly when their word is
+word-zero : (z : Bool) (a b c d : ℕ)
+    → (z && eqb a 0 && eqb b 0 && eqb c 0 && eqb d 0) ≡ (z && eqb (a * 16777216 + b * 65536 + c * 256 + d) 0)
+word-zero false a b c d = refl
+word-zero true a b c d = go (test (eqb a 0)) (test (eqb b 0)) (test (eqb c 0)) (test (eqb d 0))
+  where
+    sum : ℕ
+    sum = a * 16777216 + b * 65536 + c * 256 + d
+
+    go : Test (eqb a 0) → Test (eqb b 0) → Test (eqb c 0) → Test (eqb d 0) → (eqb a 0 && eqb b 0 && eqb c 0 && eqb d 0) ≡ eqb sum 0
+    go (fails x) y u v = let n = eqb-false a 0 x in rw (x, ne-eqb sum 0 (omega arith))
+    go (passes x) (fails y) u v = let n = eqb-false b 0 y in rw (x, y, ne-eqb sum 0 (omega arith))
+    go (passes x) (passes y) (fails u) v = let n = eqb-false c 0 u in rw (x, y, u, ne-eqb sum 0 (omega arith))
+    go (passes x) (passes y) (passes u) (fails v) = let n = eqb-false d 0 v in rw (x, y, u, v, ne-eqb sum 0 (omega arith))
+    go (passes x) (passes y) (passes u) (passes v) =
+        let p = eqb-true a 0 x in
+        let q = eqb-true b 0 y in
+        let r = eqb-true c 0 u in
+        let s = eqb-true d 0 v in
+        rw (x, y, u, v, eq-eqb sum 0 (omega arith))
+
+zero-words : (t : List ℕ) (i m : ℕ) → zeroBytes t (4 * i) (4 * m) ≡ zerosAt (word t) i m
+unfolding word
+zero-words t i zero = refl
+zero-words t i (suc m) =
+    let four : 4 * suc m ≡ suc (suc (suc (suc (4 * m)))) = omega arith in
+    let a : 4 * i + 4 * m ≡ 4 * (i + m) = omega arith in
+    let b : 4 * i + suc (4 * m) ≡ 4 * (i + m) + 1 = omega arith in
+    let c : 4 * i + suc (suc (4 * m)) ≡ 4 * (i + m) + 2 = omega arith in
+    let d : 4 * i + suc (suc (suc (4 * m))) ≡ 4 * (i + m) + 3 = omega arith in
+    rw (four, d, c, b, a, zero-words t i m)
+    (word-zero (zerosAt (word t) i m) (getD t (4 * (i + m)) 0) (getD t (4 * (i + m) + 1) 0) (getD t (4 * (i + m) + 2) 0) (getD t (4 * (i + m) + 3) 0))
+
+-- the unused records of a section, c of whose e records are used
+pub unused-zero : (t : List ℕ) (at c e : ℕ) → c ≤ e → {z : Bool} → z ≡ zeroBytes t (4 * (at + 3 + 3 * c)) (4 * (at + 3 + 3 * e) - 4 * (at + 3 + 3 * c))
+    → z ≡ zerosAt (word t) (at + 3 + 3 * c) (3 * (e - c))
+unused-zero t at c e l h =
+    let n : 4 * (at + 3 + 3 * e) - 4 * (at + 3 + 3 * c) ≡ 4 * (3 * (e - c)) = omega arith in
+    h ∙ rw n (zero-words t (at + 3 + 3 * c) (3 * (e - c)))
 
 -- ---- a section, from what was read of it
 

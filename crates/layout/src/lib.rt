@@ -1,13 +1,14 @@
 // The lent table: where its sections start, whether it is well laid, and its rows (document 01, "The table" and rows 1 to 3).
 ghost use mathlib.Core.Path.{_≡_};
 ghost use mathlib.Core.Bool.{cond, _&&_, _||_};
-ghost use Prim.Native.Nat.{_+_, _*_, _≤_, _<_};
+ghost use Prim.Native.Nat.{_+_, _-_, _*_, _≤_, _<_};
 ghost use lib.Dec.{eqb};
 ghost use lib.ListN.{length, replicate};
 ghost use mathlib.Core.List.{[]};
 ghost use Rattle.xdr.specs.Words.{word};
 ghost use Rattle.rules.specs.Records.{number, sends};
-ghost use Rattle.rules.specs.Table.{inRange, size, start as startOf, recordsAt, recordOk, recordsOk, zerosAt, sectionOk, sectionsOk};
+ghost use Rattle.rules.specs.Table.{inRange, size, start as startOf, recordsAt, recordOk, recordsOk, sectionOk, sectionsOk};
+ghost use Rattle.layout.specs.Zeros.{zeroBytes};
 ghost use Rattle.rules.specs.Calls.{outcome, first, tableRows, freshOn};
 
 // The word at which section p starts.
@@ -92,15 +93,15 @@ fn used(t: &[u8], n: usize, e: usize, p: usize, at: usize, c: usize) -> Seen
     s
 }
 
-// Whether m words from word `at` on are 0.
-fn zeros(t: &[u8], at: usize, m: usize) -> bool
-    requires { ⌜ 4 * (at + m) ≤ length (now t) ⌝ }
-    ensures { λ r. ⌜ r ≡ zerosAt (word (now (t .entry))) at m ⌝ }
+// Whether the bytes from byte `from` up to byte `end` are 0.
+fn zeros(t: &[u8], from: usize, end: usize) -> bool
+    requires { ⌜ (from ≤ end) × (end ≤ length (now t)) ⌝ }
+    ensures { λ r. ⌜ r ≡ zeroBytes (now (t .entry)) from (end - from) ⌝ }
 {
     let mut ok = true;
-    let mut i: usize = 0;
-    while i < m {
-        ok = ok & (xdr::get(t, at + i) == 0);
+    let mut i: usize = from;
+    while i < end {
+        ok = ok & (t[i] == 0);
         i += 1;
     }
     ok
@@ -120,7 +121,7 @@ fn section_ok(t: &[u8], n: usize, e: usize, p: usize) -> bool
     s.ok
         & (xdr::size(t, at + 1) == s.number)
         & (xdr::size(t, at + 2) == s.sends)
-        & zeros(t, at + 3 + 3 * c, 3 * (e - c))
+        & zeros(t, 4 * (at + 3 + 3 * c), 4 * (at + 3 + 3 * e))
 }
 
 // Whether all n sections are well laid.

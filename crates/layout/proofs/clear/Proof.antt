@@ -1,10 +1,10 @@
-use native.Mathlib.Omega.{arith}
+use Prim.Native.Nat.{_-_, _≤_}
 use mathlib.Core.List.{_++_, append-nil}
+use mathlib.Core.Path.{_≡_, ap, _∙_}
+use native.Mathlib.Omega.{arith}
+use lib.ListN.{length, length-set, replicate, drop, set}
 use lib.Seq.{drop-length}
 use borrow.Author.Fill.{fill-none, fill-more}
-use lib.ListN.{length, length-set, replicate, drop, set}
-use Prim.Native.Nat.{_-_, _≤_}
-use mathlib.Core.Path.{_≡_, ap, _∙_}
 use borrow.Author.Needs.{needs}
 use Rattle.layout.proofs.clear.Statement.{statement}
 use Rattle.layout.proofs.clear.Tie as tie

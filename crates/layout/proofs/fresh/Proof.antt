@@ -1,10 +1,10 @@
-use native.Mathlib.Omega.{arith}
 use mathlib.Core.Path.{sym, _∙_}
-use borrow.Author.Tests.{not-true, not-false}
-use Rattle.layout.proofs.Laws.{fresh-range, fresh-size, fresh-done}
-use Rattle.theorems.proofs.OneCall.{in-range}
-use Rattle.xdr.proofs.Laws.{two-puts}
+use native.Mathlib.Omega.{arith}
 use borrow.Author.Needs.{needs}
+use borrow.Author.Tests.{not-true, not-false}
+use Rattle.xdr.proofs.Laws.{two-puts}
+use Rattle.theorems.proofs.OneCall.{in-range}
+use Rattle.layout.proofs.Laws.{fresh-range, fresh-size, fresh-done}
 use Rattle.layout.proofs.fresh.Statement.{statement}
 use Rattle.layout.proofs.fresh.Tie as tie
 

@@ -1,3 +1,5 @@
+use mathlib.Core.Bool.{Bool, _&&_}
+use mathlib.Core.Path.{ap}
 use borrow.Author.Needs.{needs}
 use Rattle.layout.proofs.next.Statement.{statement}
 use Rattle.layout.proofs.next.Tie as tie
@@ -15,7 +17,9 @@ pick-requires-2 : tie.Need-pick-requires-2
 pick-requires-2 c κs = search needs
 
 returns : tie.Need-returns
-returns c = (cc, cc, cc)
+returns c =
+    let a = c .before .before .before .before .args in
+    (ap (λ (b : Bool). a .s .ok && b) (c .before .before .before .record-ok .ensures), c .before .pick .ensures, c .pick2 .ensures)
 
 pub next-spec : {M : Type 1} → statement M
 next-spec = tie.close (tie.spec record-ok-requires pick-requires add-pick pick-requires-2 returns)

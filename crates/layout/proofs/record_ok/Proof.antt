@@ -1,5 +1,5 @@
-use Rattle.layout.proofs.Laws.{record-fold}
 use borrow.Author.Needs.{needs}
+use Rattle.layout.proofs.Laws.{record-fold}
 use Rattle.layout.proofs.record_ok.Statement.{statement}
 use Rattle.layout.proofs.record_ok.Tie as tie
 

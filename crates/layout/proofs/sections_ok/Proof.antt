@@ -1,11 +1,11 @@
-use native.Mathlib.Omega.{arith}
-use mathlib.Core.Path.{_≡_, refl}
 use Prim.Native.Nat.{_+_, _-_, _*_, _≤_}
-use native.Mathlib.Numerals.{add-one}
+use mathlib.Core.Path.{_≡_, refl, ap, _∙_}
+use native.Mathlib.Nat.{mul-le-mul-right}
+use native.Mathlib.Omega.{arith}
+use borrow.Author.Needs.{needs}
 use Rattle.xdr.specs.Words.{word}
 use Rattle.rules.specs.Table.{sectionsOk}
-use native.Mathlib.Nat.{mul-le-mul-right}
-use borrow.Author.Needs.{needs}
+use Rattle.layout.proofs.Laws.{sections-next}
 use Rattle.layout.proofs.sections_ok.Statement.{statement}
 use Rattle.layout.proofs.sections_ok.Tie as tie
 
@@ -32,10 +32,16 @@ loop-less : tie.Need-loop-less Inv-loop μ-loop
 loop-less c = search needs
 
 loop-again : tie.Need-loop-again Inv-loop μ-loop
-loop-again c = (rw add-one (cc), search needs)
+loop-again c =
+    let a = c .before .before .before .before .args in
+    let s = c .before .before .loop in
+    (sections-next (a .n) (a .e) (word (a .t .now)) (s .p) (s .inv .0) (c .section-ok .ensures), search needs)
 
 returns : tie.Need-returns Inv-loop μ-loop
-returns c = let h : c .before .loop .p ≡ c .before .before .before .args .n = omega arith in cc
+returns c =
+    let a = c .before .before .before .args in
+    let h : c .before .loop .p ≡ a .n = omega arith in
+    c .before .loop .inv .0 ∙ ap (λ j. sectionsOk (a .n) (a .e) (word (a .t .now)) j) h
 
 pub sections-ok-spec : {M : Type 1} → statement M
 sections-ok-spec =

@@ -1,12 +1,12 @@
-use mathlib.Core.Path.{_≡_, refl, ap, _∙_}
-use Rattle.theorems.proofs.Scans.{laid-next, number-next, sends-next, sends-at-most}
-use native.Mathlib.Omega.{arith}
-use Rattle.layout.proofs.Laws.{product}
 use Prim.Native.Nat.{_+_, _-_, _≤_}
-use Rattle.xdr.specs.Words.{word}
-use Rattle.rules.specs.Table.{recordsAt, recordsOk}
-use Rattle.rules.specs.Records.{number, sends}
+use mathlib.Core.Path.{_≡_, refl, ap, _∙_}
+use native.Mathlib.Omega.{arith}
 use borrow.Author.Needs.{needs}
+use Rattle.xdr.specs.Words.{word}
+use Rattle.rules.specs.Records.{number, sends}
+use Rattle.rules.specs.Table.{recordsAt, recordsOk}
+use Rattle.theorems.proofs.Scans.{laid-next, number-next, sends-next, sends-at-most}
+use Rattle.layout.proofs.Laws.{product}
 use Rattle.layout.proofs.used.Statement.{statement}
 use Rattle.layout.proofs.used.Tie as tie
 

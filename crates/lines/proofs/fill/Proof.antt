@@ -1,13 +1,13 @@
-use native.Mathlib.Omega.{arith}
-use mathlib.Core.Path.{_≡_, refl, ap, _∙_}
 use Prim.Native.Nat.{_+_, _-_, _*_, _≤_}
+use mathlib.Core.Path.{_≡_, refl, ap, _∙_}
 use native.Mathlib.Nat.{mul-le-mul-right}
+use native.Mathlib.Omega.{arith}
 use lib.ListN.{length}
-use Rattle.xdr.specs.Words.{word, putWords}
-use Rattle.lines.specs.Positions.{positions}
-use Rattle.lines.proofs.Laws.{line-next}
-use Rattle.xdr.proofs.Laws.{put-length}
 use borrow.Author.Needs.{needs}
+use Rattle.xdr.proofs.Laws.{put-length}
+use Rattle.xdr.specs.Words.{word, putWords}
+use Rattle.lines.proofs.Laws.{line-next}
+use Rattle.lines.specs.Positions.{positions}
 use Rattle.lines.proofs.fill.Statement.{statement}
 use Rattle.lines.proofs.fill.Tie as tie
 

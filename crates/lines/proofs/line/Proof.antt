@@ -1,6 +1,6 @@
 use native.Mathlib.Omega.{arith}
-use Rattle.lines.proofs.Laws.{asked, counts, line-refused, line-done}
 use borrow.Author.Needs.{needs}
+use Rattle.lines.proofs.Laws.{asked, counts, line-refused, line-done}
 use Rattle.lines.proofs.line.Statement.{statement}
 use Rattle.lines.proofs.line.Tie as tie
 

@@ -1,7 +1,7 @@
-use native.Mathlib.Omega.{arith}
 use mathlib.Core.Path.{ap, _∙_}
-use Rattle.xdr.specs.Words.{word}
+use native.Mathlib.Omega.{arith}
 use borrow.Author.Needs.{needs}
+use Rattle.xdr.specs.Words.{word}
 use Rattle.lines.proofs.position_of.Statement.{statement}
 use Rattle.lines.proofs.position_of.Tie as tie
 

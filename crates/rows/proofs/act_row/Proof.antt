@@ -1,7 +1,7 @@
-use Rattle.rows.proofs.Rows.{act-table, act-area, act-process, act-none}
-use Rattle.theorems.proofs.Outcomes.{long}
 use native.Mathlib.Omega.{arith}
 use borrow.Author.Needs.{needs}
+use Rattle.theorems.proofs.Outcomes.{long}
+use Rattle.rows.proofs.Rows.{act-table, act-area, act-process, act-none}
 use Rattle.rows.proofs.act_row.Statement.{statement}
 use Rattle.rows.proofs.act_row.Tie as tie
 

@@ -1,6 +1,6 @@
-use Rattle.rows.proofs.Rows.{message-missing, message-again, message-full, message-none}
 use native.Mathlib.Omega.{arith}
 use borrow.Author.Needs.{needs}
+use Rattle.rows.proofs.Rows.{message-missing, message-again, message-full, message-none}
 use Rattle.rows.proofs.message_row.Statement.{statement}
 use Rattle.rows.proofs.message_row.Tie as tie
 

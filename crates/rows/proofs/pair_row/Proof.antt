@@ -1,6 +1,6 @@
-use Rattle.rows.proofs.Rows.{acts, pair-act, pair-other, pair-none}
 use native.Mathlib.Omega.{arith}
 use borrow.Author.Needs.{needs}
+use Rattle.rows.proofs.Rows.{acts, pair-act, pair-other, pair-none}
 use Rattle.rows.proofs.pair_row.Statement.{statement}
 use Rattle.rows.proofs.pair_row.Tie as tie
 

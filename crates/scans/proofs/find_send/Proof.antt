@@ -1,11 +1,11 @@
-use mathlib.Core.Path.{_≡_, refl, ap, _∙_}
-use Rattle.theorems.proofs.Scans.{number-next, sends-next, carried-next, destination-next, sends-at-most}
-use native.Mathlib.Omega.{arith}
-use Rattle.xdr.specs.Words.{word}
-use Rattle.rules.specs.Table.{recordsAt}
 use Prim.Native.Nat.{_+_, _-_, _≤_}
-use Rattle.rules.specs.Records.{number, sends, carried, destination}
+use mathlib.Core.Path.{_≡_, refl, ap, _∙_}
+use native.Mathlib.Omega.{arith}
 use borrow.Author.Needs.{needs}
+use Rattle.xdr.specs.Words.{word}
+use Rattle.rules.specs.Records.{number, sends, carried, destination}
+use Rattle.rules.specs.Table.{recordsAt}
+use Rattle.theorems.proofs.Scans.{number-next, sends-next, carried-next, destination-next, sends-at-most}
 use Rattle.scans.proofs.find_send.Statement.{statement}
 use Rattle.scans.proofs.find_send.Tie as tie
 

@@ -1,11 +1,11 @@
-use mathlib.Core.Path.{_≡_, refl, ap, _∙_}
-use Rattle.theorems.proofs.Scans.{receipt-next}
-use native.Mathlib.Omega.{arith}
-use Rattle.xdr.specs.Words.{word}
-use Rattle.rules.specs.Table.{recordsAt}
 use Prim.Native.Nat.{_-_, _≤_}
-use Rattle.rules.specs.Records.{hasReceipt}
+use mathlib.Core.Path.{_≡_, refl, ap, _∙_}
+use native.Mathlib.Omega.{arith}
 use borrow.Author.Needs.{needs}
+use Rattle.xdr.specs.Words.{word}
+use Rattle.rules.specs.Records.{hasReceipt}
+use Rattle.rules.specs.Table.{recordsAt}
+use Rattle.theorems.proofs.Scans.{receipt-next}
 use Rattle.scans.proofs.has_receipt.Statement.{statement}
 use Rattle.scans.proofs.has_receipt.Tie as tie
 

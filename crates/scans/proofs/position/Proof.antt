@@ -1,12 +1,12 @@
-use mathlib.Core.Path.{_≡_, refl, ap, _∙_}
-use Rattle.theorems.proofs.Lines.{reached as reachedBy}
-use native.Mathlib.Omega.{arith}
 use Prim.Native.Nat.{_-_, _≤_}
-use Rattle.xdr.specs.Words.{word}
-use Rattle.rules.specs.Table.{recordsAt}
-use Rattle.rules.specs.Lines.{numbered}
-use Rattle.scans.proofs.Laws.{numbered-none, position-next, reached-next, position-le}
+use mathlib.Core.Path.{_≡_, refl, ap, _∙_}
+use native.Mathlib.Omega.{arith}
 use borrow.Author.Needs.{needs}
+use Rattle.xdr.specs.Words.{word}
+use Rattle.rules.specs.Lines.{numbered}
+use Rattle.rules.specs.Table.{recordsAt}
+use Rattle.theorems.proofs.Lines.{reached as reachedBy}
+use Rattle.scans.proofs.Laws.{numbered-none, position-next, reached-next, position-le}
 use Rattle.scans.proofs.position.Statement.{statement}
 use Rattle.scans.proofs.position.Tie as tie
 

@@ -1,7 +1,7 @@
 use native.Mathlib.Omega.{arith}
-use Rattle.steps.proofs.Done.{refused, clear, ready, checkpoint-done}
-use Rattle.rules.specs.Steps.{checkpoint}
 use borrow.Author.Needs.{needs}
+use Rattle.rules.specs.Steps.{checkpoint}
+use Rattle.steps.proofs.Done.{refused, clear, ready, checkpoint-done}
 use Rattle.steps.proofs.checkpoint.Statement.{statement}
 use Rattle.steps.proofs.checkpoint.Tie as tie
 

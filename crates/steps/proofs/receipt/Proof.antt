@@ -1,7 +1,7 @@
 use native.Mathlib.Omega.{arith}
-use Rattle.steps.proofs.Done.{refused, clear, ready, receipt-room, receipt-done}
-use Rattle.rules.specs.Steps.{receipt}
 use borrow.Author.Needs.{needs}
+use Rattle.rules.specs.Steps.{receipt}
+use Rattle.steps.proofs.Done.{refused, clear, ready, receipt-room, receipt-done}
 use Rattle.steps.proofs.receipt.Statement.{statement}
 use Rattle.steps.proofs.receipt.Tie as tie
 

@@ -1,7 +1,7 @@
 use native.Mathlib.Omega.{arith}
-use Rattle.steps.proofs.Done.{refused, clear, ready, send-done}
-use Rattle.rules.specs.Steps.{send}
 use borrow.Author.Needs.{needs}
+use Rattle.rules.specs.Steps.{send}
+use Rattle.steps.proofs.Done.{refused, clear, ready, send-done}
 use Rattle.steps.proofs.send.Statement.{statement}
 use Rattle.steps.proofs.send.Tie as tie
 

@@ -1,5 +1,5 @@
-use Rattle.store.proofs.Puts.{forced-put}
 use borrow.Author.Needs.{needs}
+use Rattle.store.proofs.Puts.{forced-put}
 use Rattle.store.proofs.add_forced.Statement.{statement}
 use Rattle.store.proofs.add_forced.Tie as tie
 

@@ -1,7 +1,7 @@
-use Rattle.store.proofs.Puts.{forcing, not-forcing, room-forcing, room-not}
 use Prim.Native.Nat.{_<_, _≤_, _+_}
-use Rattle.xdr.specs.Words.{word}
 use borrow.Author.Needs.{needs}
+use Rattle.xdr.specs.Words.{word}
+use Rattle.store.proofs.Puts.{forcing, not-forcing, room-forcing, room-not}
 use Rattle.store.proofs.add_receipt.Statement.{statement}
 use Rattle.store.proofs.add_receipt.Tie as tie
 

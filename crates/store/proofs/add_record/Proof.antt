@@ -1,5 +1,5 @@
-use Rattle.store.proofs.Puts.{record-put}
 use borrow.Author.Needs.{needs}
+use Rattle.store.proofs.Puts.{record-put}
 use Rattle.store.proofs.add_record.Statement.{statement}
 use Rattle.store.proofs.add_record.Tie as tie
 
