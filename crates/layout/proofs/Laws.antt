@@ -148,6 +148,7 @@ module _ (t : List ℕ) (n e : ℕ) where
   unfolding freshOn
   fresh-size r z = rw (r, ne-eqb (length t) (size n e) z)
 
-  pub fresh-done : inRange n e ≡ true → length t ≡ size n e → {u v : List ℕ} → u ≡ replicate (length t) 0 → v ≡ putWords u 0 (n ∷ e ∷ []) → outcome 0 v [] ≡ freshOn t n e
+  pub fresh-done : inRange n e ≡ true → length t ≡ size n e → {u v : List ℕ} → u ≡ replicate (length t) 0 → v ≡ putWords u 0 (n ∷ e ∷ [])
+      → outcome 0 v [] ≡ freshOn t n e
   unfolding freshOn
   fresh-done r z c p = rw (r, eq-eqb (length t) (size n e) z, p, c, z, fresh-layout n e (in-range n e r))

@@ -16,7 +16,7 @@ use Rattle.rules.specs.Calls.{areaLength, Row, row, first, tableRows, laterRows
 use Rattle.theorems.proofs.Steps.{none-met, first-none, or-false}
 use Rattle.theorems.proofs.OneCall.{Whole, whole, split-zero}
 use Rattle.theorems.proofs.Outcomes.{stopped, going}
-use Rattle.rows.specs.Rows.{actRows, pairRows, messageRows, stepRow}
+use Rattle.rows.specs.Rows.{actRows, pairRows, receiptRows, receiptRowsAt, stepRow}
 
 -- ---- the table, the area and the acting process
 
@@ -85,7 +85,8 @@ module _ (t : List ℕ) (p : ℕ) (call : Call) (len : ℕ) {r : ℕ} (e : r ≡
   step-going z = going (actRows t len (areaLength call) p) (laterRows (word t 0) (word t 1) (decoded t) p call) tt e z
 
 -- a checkpoint, where c of E records are used and x is the number
-module _ (t : List ℕ) (p len : ℕ) {r : ℕ} (e : r ≡ first (actRows t len 4 p)) (z : r ≡ 0) {n E c : ℕ} (a : n ≡ word t 0) (b : E ≡ word t 1) (h : c ≡ length (history (decoded t) p)) where
+module _ (t : List ℕ) (p len : ℕ) {r : ℕ} (e : r ≡ first (actRows t len 4 p)) (z : r ≡ 0) {n E c : ℕ}
+    (a : n ≡ word t 0) (b : E ≡ word t 1) (h : c ≡ length (history (decoded t) p)) where
   pub checkpoint-full : E < c + 1 → 9 ≡ stepRow t p checkpoint len
   checkpoint-full l = sym (step-going t p checkpoint len e z ∙ rw (← b, ← h, lt-ltb E (c + 1) l))
 
@@ -113,13 +114,13 @@ module _ (t : List ℕ) (p q len : ℕ) {r : ℕ} (e : r ≡ first (pairRows t l
 -- a receipt
 module _ (t : List ℕ) (p q k len : ℕ) {r : ℕ} (e : r ≡ first (pairRows t len p q)) where
   abbrev message : List Row
-  message = messageRows (word t 1) (length (history (decoded t) p)) (number (history (decoded t) p)) (history (decoded t) p) (history (decoded t) q) p q k
+  message = receiptRows (word t 1) (length (history (decoded t) p)) (number (history (decoded t) p)) (history (decoded t) p) (history (decoded t) q) p q k
 
   pub receipt-stopped : r ≢ 0 → r ≡ stepRow t p (receipt q k) len
   receipt-stopped ne = stopped (pairRows t len p q) message tt e ne
 
   pub receipt-going : r ≡ 0 → {E c x m : ℕ} {h g : History} → E ≡ word t 1 → c ≡ length (history (decoded t) p) → x ≡ number (history (decoded t) p)
-      → h ≡ history (decoded t) p → g ≡ history (decoded t) q → m ≡ first (messageRows E c x h g p q k) → m ≡ stepRow t p (receipt q k) len
+      → h ≡ history (decoded t) p → g ≡ history (decoded t) q → m ≡ first (receiptRows E c x h g p q k) → m ≡ stepRow t p (receipt q k) len
   receipt-going z a b d f i j = j ∙ rw (a, b, d, f, i) (sym (going (pairRows t len p q) message tt e z))
 
 -- ---- a receipt's message: section p starts at word `at` and has c records, section q starts at word `from` and has d
@@ -128,7 +129,7 @@ module _ (t : List ℕ) (e at from p q k : ℕ) {c d s o m : ℕ} (i : c ≡ wor
     (f : s ≡ sends (recordsAt (word t) (from + 3) d)) (g : m ≡ carried (recordsAt (word t) (from + 3) d) k)
     (h : o ≡ destination (recordsAt (word t) (from + 3) d) k) where
   abbrev rows : List Row
-  rows = messageRows e (word t at) (word t (at + 1)) (recordsAt (word t) (at + 3) (word t at)) (recordsAt (word t) (from + 3) (word t from)) p q k
+  rows = receiptRowsAt t e at from p q k
 
   pub message-missing : not (ltb 0 k && leb k s && eqb o p) ≡ true → 7 ≡ first rows
   message-missing x = rw (← j, ← f, ← h, x)

@@ -14,7 +14,8 @@ use Rattle.theorems.proofs.Scans.{least-event}
 
 module _ (N : ℕ) (w : ℕ → ℕ) (at i : ℕ) {f : Bool} (e : f ≡ reached N (recordsAt w at i)) where
   pub position-next : {r s : ℕ} → r ≡ numbered N (recordsAt w at i) → s ≡ cond f r (i + 1) → s ≡ numbered N (recordsAt w at (i + 1))
-  position-next g s = s ∙ rw (e, g, add-one i) (sym (numbered-cons N (eventOf (w (at + 3 * i)) (w (at + 3 * i + 1)) (w (at + 3 * i + 2))) (recordsAt w at i) ∙ rw (records-length w at i)))
+  position-next g s = s ∙ rw (e, g, add-one i) (sym (numbered-cons N (eventOf (w (at + 3 * i)) (w (at + 3 * i + 1)) (w (at + 3 * i + 2)))
+      (recordsAt w at i) ∙ rw (records-length w at i)))
 
   pub reached-next : {kind a : ℕ} → kind ≡ w (at + 3 * i) → a ≡ w (at + 3 * i + 1)
       → (f || (not (eqb kind 4 || eqb kind 3) && leb N a)) ≡ reached N (recordsAt w at (i + 1))

@@ -19,7 +19,7 @@ use Rattle.theorems.proofs.Stores.{stored}
 use Rattle.theorems.proofs.OneCall.{step-stores}
 use Rattle.theorems.proofs.Outcomes.{judged-stop, judged-done, Head, head, carried-low, Passed, passed}
 use Rattle.rows.specs.Rows.{stepRow}
-use Rattle.store.specs.Added.{withRecord, withForced}
+use Rattle.store.specs.Added.{withRecord, withForced, withReceipt}
 
 -- a refused step
 pub refused : (t a : List ℕ) (p : ℕ) (call : Call) {r : ℕ} → r ≡ stepRow t p call (length a) → r ≢ 0 → outcome r t a ≡ stepOn t a p call
@@ -48,7 +48,7 @@ one-stored t p h ev i c x s r = rw (c, add-comm (length h) 1, i, x, s, r)
 -- the receipt of (q, k) that carries m, stored
 receipt-stored : (t : List ℕ) (p : ℕ) (h : History) (m q k : ℕ) {at : ℕ} → at ≡ start (word t 1) p → word t at ≡ length h
     → word t (at + 1) ≡ number h → word t (at + 2) ≡ sends h
-    → cond (ltb (word t (at + 1)) m) (withForced t at (word t (at + 2)) m q k) (withRecord t at (word t (at + 1)) (word t (at + 2)) 4 q k)
+    → withReceipt t at m q k
     ≡ stored (word t 1) t p h (received q k ∷ cond (ltb (number h) m) (forced m ∷ []) [])
 unfolding stored
 receipt-stored t p h m q k {at} i c x s = rw (x, s) (go (ltb (number h) m))
@@ -79,7 +79,8 @@ module _ (t a : List ℕ) (bt : Bytes t) (p : ℕ) (call : Call) {r : ℕ} (e : 
 -- the room of a receipt that carries m
 pub receipt-room : (t a : List ℕ) (p q k E at m : ℕ) → Ready t a p (receipt q k) E at → m ≡ carried (history (decoded t) q) k
     → 4 * (at + 3 + 3 * (word t at + cond (ltb (word t (at + 1)) m) 2 1)) ≤ length t
-receipt-room t a p q k E at m R i = rw (R .own .current, i) (go (cond (ltb (number (history (decoded t) p)) (carried (history (decoded t) q) k)) 2 1) (R .free) (R .own .inside))
+receipt-room t a p q k E at m R i = rw (R .own .current, i)
+    (go (cond (ltb (number (history (decoded t) p)) (carried (history (decoded t) q) k)) 2 1) (R .free) (R .own .inside))
   where
     go : (x : ℕ) → word t at + x ≤ E → 4 * (at + 3 + 3 * E) ≤ length t → 4 * (at + 3 + 3 * (word t at + x)) ≤ length t
     go x f l = omega arith
@@ -100,7 +101,8 @@ module _ (t a : List ℕ) (bt : Bytes t) (ba : Bytes a) (p : ℕ) {E at x s : �
       accepted t a bt ba p checkpoint e z ((x + 1) ∷ []) (omega (arith, H .low)) refl (rw n)
       (v ∙ one-stored t p h (basic (suc (number h))) at-start (H .count) n (g ∙ H .sent) (rw n)) (one-put a (x + 1) w)
 
-  pub send-done : (q : ℕ) {r : ℕ} {u b : List ℕ} → r ≡ stepRow t p (send q) (length a) → r ≡ 0 → u ≡ withRecord t at x (s + 1) 3 q (s + 1) → b ≡ putWords a 0 ((s + 1) ∷ x ∷ [])
+  pub send-done : (q : ℕ) {r : ℕ} {u b : List ℕ} → r ≡ stepRow t p (send q) (length a) → r ≡ 0 → u ≡ withRecord t at x (s + 1) 3 q (s + 1)
+      → b ≡ putWords a 0 ((s + 1) ∷ x ∷ [])
       → outcome 0 u b ≡ stepOn t a p (send q)
   send-done q e z v w =
       let H = ready t a bt p (send q) e z i j .own in
@@ -112,7 +114,7 @@ module _ (t a : List ℕ) (bt : Bytes t) (ba : Bytes a) (p : ℕ) {E at x s : �
 pub receipt-done : (t a : List ℕ) → Bytes t → Bytes a → (p q k : ℕ) {r E at m y : ℕ} {u b : List ℕ} → E ≡ word t 1 → at ≡ start E p
     → r ≡ stepRow t p (receipt q k) (length a) → r ≡ 0 → m ≡ carried (history (decoded t) q) k
     → y ≡ cond (ltb (word t (at + 1)) m) 1 0
-    → u ≡ cond (ltb (word t (at + 1)) m) (withForced t at (word t (at + 2)) m q k) (withRecord t at (word t (at + 1)) (word t (at + 2)) 4 q k)
+    → u ≡ withReceipt t at m q k
     → b ≡ putWords a 0 (m ∷ y ∷ []) → outcome 0 u b ≡ stepOn t a p (receipt q k)
 receipt-done t a bt ba p q k {E} {at} {m} {y} i j e z c n v w =
     let W = clear t a bt p (receipt q k) e z .table in

@@ -8,7 +8,7 @@ use lib.Dec.{ltb}
 use borrow.Author.Tests.{lt-ltb, le-ltb}
 use Rattle.xdr.specs.Words.{word, putWords}
 use Rattle.xdr.proofs.Laws.{put-append}
-use Rattle.store.specs.Added.{withRecord, withForced}
+use Rattle.store.specs.Added.{withRecord, withForced, withReceipt}
 
 module _ (t : List ℕ) (at s : ℕ) {c : ℕ} {t₁ : List ℕ} (r : c ≡ word t at) where
   pub record-put : (x kind a b : ℕ) {t₂ : List ℕ} → t₁ ≡ putWords t at ((c + 1) ∷ x ∷ s ∷ []) → t₂ ≡ putWords t₁ (at + 3 + 3 * c) (kind ∷ a ∷ b ∷ [])
@@ -27,12 +27,12 @@ module _ (t : List ℕ) (at s : ℕ) {c : ℕ} {t₁ : List ℕ} (r : c ≡ word
 module _ (t : List ℕ) (at m q k : ℕ) {x s : ℕ} {u : List ℕ} (h : x ≡ word t (at + 1)) (i : s ≡ word t (at + 2)) where
   pub forcing : x < m → u ≡ withForced t at s m q k
       → (_≡_ {A = ℕ} 1 (cond (ltb (word t (at + 1)) m) 1 0))
-      × (u ≡ cond (ltb (word t (at + 1)) m) (withForced t at (word t (at + 2)) m q k) (withRecord t at (word t (at + 1)) (word t (at + 2)) 4 q k))
+      × (u ≡ withReceipt t at m q k)
   forcing l e = (rw (← h, lt-ltb x m l), rw (← h, lt-ltb x m l, ← i) e)
 
   pub not-forcing : m ≤ x → u ≡ withRecord t at x s 4 q k
       → (_≡_ {A = ℕ} 0 (cond (ltb (word t (at + 1)) m) 1 0))
-      × (u ≡ cond (ltb (word t (at + 1)) m) (withForced t at (word t (at + 2)) m q k) (withRecord t at (word t (at + 1)) (word t (at + 2)) 4 q k))
+      × (u ≡ withReceipt t at m q k)
   not-forcing l e = (rw (← h, le-ltb x m l), rw (← h, le-ltb x m l, ← i) e)
 
 -- the room that a receipt needs, where c records are used and x is the number

@@ -3,10 +3,9 @@ ghost use mathlib.Core.Path.{_≡_};
 ghost use mathlib.Core.Bool.{cond};
 ghost use mathlib.Core.List.{[], _∷_};
 ghost use Prim.Native.Nat.{_+_, _*_, _≤_};
-ghost use lib.Dec.{ltb};
 ghost use lib.ListN.{length};
 ghost use Rattle.xdr.specs.Words.{word, putWords};
-ghost use Rattle.store.specs.Added.{withRecord, withForced};
+ghost use Rattle.store.specs.Added.{withRecord, withForced, forcesAt, withReceipt};
 
 // One record; x and s are the section's number and count of sends after it.
 pub fn add_record(t: &mut [u8], at: usize, x: u32, s: u32, kind: u32, a: u32, b: u32)
@@ -32,8 +31,8 @@ fn add_forced(t: &mut [u8], at: usize, s: u32, m: u32, q: u32, k: u32)
 
 // The receipt of (q, k), which carries m; returns 1 if it forces a checkpoint, else 0.
 pub fn add_receipt(t: &mut [u8], at: usize, m: u32, q: u32, k: u32) -> u32
-    requires { ⌜ (at ≤ 65536) × (word (now t) at ≤ 1024) × (4 * (at + 3 + 3 * (word (now t) at + cond (ltb (word (now t) (at + 1)) m) 2 1)) ≤ length (now t)) ⌝ }
-    ensures { λ r. ⌜ (r ≡ cond (ltb (word (now (t .entry)) (at + 1)) m) 1 0) × (now (t .exit) ≡ cond (ltb (word (now (t .entry)) (at + 1)) m) (withForced (now (t .entry)) at (word (now (t .entry)) (at + 2)) m q k) (withRecord (now (t .entry)) at (word (now (t .entry)) (at + 1)) (word (now (t .entry)) (at + 2)) 4 q k)) ⌝ }
+    requires { ⌜ (at ≤ 65536) × (word (now t) at ≤ 1024) × (4 * (at + 3 + 3 * (word (now t) at + cond (forcesAt (now t) at m) 2 1)) ≤ length (now t)) ⌝ }
+    ensures { λ r. ⌜ (r ≡ cond (forcesAt (now (t .entry)) at m) 1 0) × (now (t .exit) ≡ withReceipt (now (t .entry)) at m q k) ⌝ }
 {
     let x = xdr::get(t, at + 1);
     let s = xdr::get(t, at + 2);

@@ -70,7 +70,8 @@ after-calls n E s (entry r call area) p size = go (test (accepts n E s (entry r 
     here A (fails e) = rw (e, history-other s r p (grown (history s r) call (carries s call)) (λ x. eqb-false r p e (sym x)))
 
     go : Test (accepts n E s (entry r call area))
-        → calls (history (after n E s (entry r call area)) p) ≡ reverseAux (acceptedCall p (check n E s (entry r call area)) (entry r call area)) (calls (history s p))
+        → calls (history (after n E s (entry r call area)) p)
+        ≡ reverseAux (acceptedCall p (check n E s (entry r call area)) (entry r call area)) (calls (history s p))
     go (passes e) = rw e (here (accepts-met n E s r call area e) (test (eqb r p)))
     go (fails e) = rw e
 
@@ -84,7 +85,8 @@ run-calls n E (e ∷ l) s p size =
     ∙ ap (λ (r : ℕ). reverseAux (acceptedCall p r e ++ accepted p n E (after n E s e) l) (calls (history s p))) (sym (said-returned n E s e))
 
 fresh-calls : (n E : ℕ) (l : List Entry) (p : ℕ) → calls (history (run n E (fresh n) l) p) ≡ reverse (accepted p n E (fresh n) l)
-fresh-calls n E l p = run-calls n E l (fresh n) p (length-replicate n []) ∙ ap (λ (h : History). reverseAux (accepted p n E (fresh n) l) (calls h)) (history-fresh n p)
+fresh-calls n E l p = run-calls n E l (fresh n) p (length-replicate n [])
+    ∙ ap (λ (h : History). reverseAux (accepted p n E (fresh n) l) (calls h)) (history-fresh n p)
 
 -- ---- a state that a list made is rebuilt from the calls of its histories
 
@@ -157,7 +159,8 @@ module _ (n E : ℕ) (f : State) (own : Follows f f) where
   follow [] s size c h = h
   follow (e ∷ l) s size c h =
       let o : Before s f =
-      older-calls s h (λ q. subst (Older (calls (history s q))) (sym (run-calls n E (e ∷ l) s q size) ∙ c q) (reverse-older (accepted q n E s (e ∷ l)) (calls (history s q))))
+      older-calls s h (λ q. subst (Older (calls (history s q))) (sym (run-calls n E (e ∷ l) s q size) ∙ c q)
+      (reverse-older (accepted q n E s (e ∷ l)) (calls (history s q))))
       in
       follow l (after n E s e) (after-length n E s e ∙ size) c (follow-after s e size o h)
 

@@ -101,7 +101,8 @@ last-latest : (h : History) (t : ℕ) → saved h t ≡ true → t ≤ lastSaved
 last-latest [] t e = let x = eqb-true t 0 e in omega arith
 last-latest (x ∷ h) t e = go (test (eqb t (suc (length h)))) (test (isCheckpoint x)) (saved-le (x ∷ h) t e) (last-latest h t)
   where
-    go : Test (eqb t (suc (length h))) → Test (isCheckpoint x) → t ≤ suc (length h) → (saved h t ≡ true → t ≤ lastSaved h) → t ≤ cond (isCheckpoint x) (suc (length h)) (lastSaved h)
+    go : Test (eqb t (suc (length h))) → Test (isCheckpoint x) → t ≤ suc (length h) → (saved h t ≡ true → t ≤ lastSaved h)
+        → t ≤ cond (isCheckpoint x) (suc (length h)) (lastSaved h)
     go y (passes c) l r = rw c l
     go (passes y) (fails c) l r = clash false (sym c ∙ (rw y at e)) refl
     go (fails y) (fails c) l r = rw c (r (rw y at e))
@@ -209,7 +210,8 @@ lowered-same s cut p t e = go (test (any (orphan s cut p) (upto t (history s p))
         absurd (omega arith)
     go (fails x) = x
 
-lowered-permitted : (s : State) (cut : List ℕ) (down : Bool) (p t : ℕ) → permitted down (history s p) t ≡ true → permitted down (history s p) (lowered s cut p t) ≡ true
+lowered-permitted : (s : State) (cut : List ℕ) (down : Bool) (p t : ℕ) → permitted down (history s p) t ≡ true
+    → permitted down (history s p) (lowered s cut p t) ≡ true
 lowered-permitted s cut down p t ok = go (any (orphan s cut p) (upto t (history s p)))
   where
     h : History

@@ -176,7 +176,8 @@ sections-split E w (h ∷ s) p short a zero lt =
 sections-split E w (h ∷ s) p short a (suc r) lt =
     subst (λ (i : ℕ). At w (start E i) (sectionWords E (history s r))) (let e : suc p + r ≡ p + suc r = omega arith in e)
     (sections-split E w s (suc p) (λ q. short (suc q))
-    (at-right w (start E p) (sectionWords E h) (sectionsWords E s) a (start E (suc p)) (next E p ∙ ap (λ (x : ℕ). start E p + x) (sym (section-length E h (short 0)))))
+    (at-right w (start E p) (sectionWords E h) (sectionsWords E s) a (start E (suc p))
+    (next E p ∙ ap (λ (x : ℕ). start E p + x) (sym (section-length E h (short 0)))))
     r (le-of-suc-le-suc lt))
 
 sections-read : (E : ℕ) (w : ℕ → ℕ) (s : State) (p : ℕ) → ((q : ℕ) → length (history s q) ≤ E) → At w (start E p) (sectionsWords E s)
@@ -186,7 +187,8 @@ sections-read E w (h ∷ s) p short a =
     ap₂ (λ (x : History) (xs : State). x ∷ xs)
     (section-at 0 E w p h (short 0) (at-left w (start E p) (sectionWords E h) (sectionsWords E s) a))
     (sections-read E w s (suc p) (λ q. short (suc q))
-    (at-right w (start E p) (sectionWords E h) (sectionsWords E s) a (start E (suc p)) (next E p ∙ ap (λ (x : ℕ). start E p + x) (sym (section-length E h (short 0))))))
+    (at-right w (start E p) (sectionWords E h) (sectionsWords E s) a (start E (suc p))
+    (next E p ∙ ap (λ (x : ℕ). start E p + x) (sym (section-length E h (short 0))))))
 
 pub sections-length : (E : ℕ) (s : State) → ((q : ℕ) → length (history s q) ≤ E) → length (sectionsWords E s) ≡ length s * (3 * (E + 1))
 sections-length E [] short = omega arith

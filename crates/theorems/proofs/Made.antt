@@ -247,5 +247,7 @@ never-ten n E s (entry p checkpoint area) M x = step (first-meets 9 (stepRows n 
     step : Meets 10 (stepRows n E s p checkpoint (length area)) → ⊥
     step (inl y) = let z = y .1 in omega arith
     step (inr y) = two (y .1)
-never-ten n E s (entry p (send q) area) M x = not-there (stepRows n E s p (send q) (length area)) (omega arith) (first-meets 9 (stepRows n E s p (send q) (length area)) x)
-never-ten n E s (entry p (receipt q k) area) M x = not-there (stepRows n E s p (receipt q k) (length area)) (omega arith) (first-meets 9 (stepRows n E s p (receipt q k) (length area)) x)
+never-ten n E s (entry p (send q) area) M x = not-there (stepRows n E s p (send q) (length area)) (omega arith)
+    (first-meets 9 (stepRows n E s p (send q) (length area)) x)
+never-ten n E s (entry p (receipt q k) area) M x = not-there (stepRows n E s p (receipt q k) (length area)) (omega arith)
+    (first-meets 9 (stepRows n E s p (receipt q k) (length area)) x)

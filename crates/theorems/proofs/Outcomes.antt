@@ -134,5 +134,6 @@ passed t b p call len e =
     record {
       table = whole t b (z .0);
       accepted = accepted-met n E s p call len (z .1);
-      area = eqb-true len (areaLength call) (not-false (eqb len (areaLength call)) (first-unmet 3 (not (eqb len (areaLength call))) (row 5 (leb n p) ∷ laterRows n E s p call) (z .1)));
+      area = eqb-true len (areaLength call) (not-false (eqb len (areaLength call))
+          (first-unmet 3 (not (eqb len (areaLength call))) (row 5 (leb n p) ∷ laterRows n E s p call) (z .1)));
     }

@@ -108,7 +108,8 @@ used-of n E w p at (suc i) ok =
     at-append w at (usedWords h) (recordWords e h)
     (used-of n E w p at i (and-left (recordsOk n E w p at i) (recordOk n E p (sends h) (w k) (w (k + 1)) (w (k + 2))) ok))
     k (let l = used-length h in let m = records-length w at i in omega arith)
-    (rw (record-read n E p (w k) (w (k + 1)) (w (k + 2)) h (and-right (recordsOk n E w p at i) (recordOk n E p (sends h) (w k) (w (k + 1)) (w (k + 2))) ok) .0) three)
+    (rw (record-read n E p (w k) (w (k + 1)) (w (k + 2)) h
+    (and-right (recordsOk n E w p at i) (recordOk n E p (sends h) (w k) (w (k + 1)) (w (k + 2))) ok) .0) three)
   where
     h : History
     h = recordsAt w at i
@@ -238,7 +239,8 @@ module _ (n E : ℕ) (t : List ℕ) (T : IsTable n E t) where
   -- each section's words are those of the history that is read from it
   pub decoded-words : (p : ℕ) → p < n → At (word t) (start E p) (sectionWords E (history (decoded t) p))
   decoded-words p lt =
-      subst (λ (h : History). At (word t) (start E p) (sectionWords E h)) (sym (decoded-at p lt)) (section-of n E (word t) p (sections-each n E (word t) n (T .laid) p lt) .words)
+      subst (λ (h : History). At (word t) (start E p) (sectionWords E h)) (sym (decoded-at p lt))
+      (section-of n E (word t) p (sections-each n E (word t) n (T .laid) p lt) .words)
 
   pub decoded-short : (p : ℕ) → length (history (decoded t) p) ≤ E
   decoded-short p = go (decLt p n)
