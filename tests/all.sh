@@ -7,11 +7,16 @@ cd "$(dirname "$0")/.." || exit 2
 passed=0
 failed=0
 
+# rt ci removes target/, so what is printed is kept elsewhere
+log=$(mktemp) || exit 2
+trap 'rm -f "$log"' EXIT
+
 # counted COMMAND..: adds up the command's last line 'N passed, M failed'; one that ends badly without it counts as a failure
 counted() {
     local last status
-    last=$("$@" | tee /dev/stderr | tail -n 1)
+    "$@" | tee "$log"
     status=$?
+    last=$(tail -n 1 "$log")
     if [[ $last =~ ^(rt:\ )?([0-9]+)\ passed,\ ([0-9]+)\ failed$ ]]; then
         passed=$((passed + BASH_REMATCH[2]))
         failed=$((failed + BASH_REMATCH[3]))
