@@ -1,11 +1,9 @@
--- Bounds of the table's dimensions, a record's test without branches, the tests of a section and a table put together, and a fresh
--- table.
+-- A record's test without branches, the tests of a section and a table put together, and a fresh table.
 use mathlib.Core.Path.{_≡_, refl, sym, _∙_}
 use mathlib.Core.Logic.{_≢_}
 use mathlib.Core.List.{List, [], _∷_}
 use mathlib.Core.Bool.{Bool, true, false, not, _&&_, _||_}
 use Prim.Native.Nat.{ℕ, zero, suc, _+_, _-_, _*_, _≤_, _<_}
-use native.Mathlib.Nat.{mul-le-mul}
 use native.Mathlib.Numerals.{add-one}
 use lib.Dec.{eqb, leb, ltb}
 use lib.ListN.{length, getD, replicate}
@@ -19,9 +17,6 @@ use Rattle.rules.specs.Calls.{outcome, first, tableRows, freshOn}
 use Rattle.theorems.proofs.OneCall.{in-range}
 use Rattle.theorems.proofs.Fresh.{fresh-layout}
 use Rattle.theorems.proofs.Histories.{Test, passes, fails, test}
-
-pub product : (n e : ℕ) → n ≤ 16 → e ≤ 1024 → n * e ≤ 16384
-product n e a b = mul-le-mul {n₁ = n} {m₁ = e} {n₂ = 16} {m₂ = 1024} a b
 
 or-none : (x : Bool) → (x || false) ≡ x
 or-none true = refl

@@ -3,7 +3,7 @@ ghost use mathlib.Core.Path.{_≡_};
 ghost use Prim.Native.Nat.{ℕ, _+_, _*_, _≤_, _<_};
 ghost use lib.ListN.{length};
 ghost use Rattle.xdr.specs.Words.{word, putWords};
-ghost use Rattle.rules.specs.Table.{start, recordsAt};
+ghost use Rattle.rules.specs.Table.{start, sectionAt};
 ghost use Rattle.rules.specs.Lines.{numbered};
 ghost use Rattle.rules.specs.Calls.{outcome, first, lineOn};
 ghost use Rattle.lines.specs.Positions.{lineRows, positions};
@@ -11,7 +11,7 @@ ghost use Rattle.lines.specs.Positions.{lineRows, positions};
 // The position of process p.
 fn position_of(t: &[u8], e: usize, p: usize, m: usize) -> u32
     requires { ⌜ (e ≤ 1024) × (p < 16) × (4 * start e (p + 1) ≤ length (now t)) × (word (now t) (start e p) ≤ e) ⌝ }
-    ensures { λ r. ⌜ r ≡ numbered m (recordsAt (word (now (t .entry))) (start e p + 3) (word (now (t .entry)) (start e p))) ⌝ }
+    ensures { λ r. ⌜ r ≡ numbered m (sectionAt (word (now (t .entry))) e p) ⌝ }
 {
     let at = layout::start(e, p);
     scans::position(t, at + 3, xdr::size(t, at), m) as u32

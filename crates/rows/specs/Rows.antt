@@ -5,7 +5,7 @@ use Prim.Native.Nat.{ℕ, _+_}
 use lib.Dec.{eqb, leb, ltb}
 use Rattle.xdr.specs.Words.{word}
 use Rattle.rules.specs.Records.{History, carried, hasSend, hasReceipt}
-use Rattle.rules.specs.Table.{recordsAt, decoded}
+use Rattle.rules.specs.Table.{sectionOf, decoded}
 use Rattle.rules.specs.Steps.{Call}
 use Rattle.rules.specs.Calls.{Row, row, first, tableRows, stepRows}
 
@@ -25,13 +25,9 @@ receiptRows e c x h g p q k =
     ∷ row 9 (ltb e (c + cond (ltb x (carried g k)) 2 1))
     ∷ []
 
--- the records of the section that starts at word `at`
-abbrev pub sectionOf : List ℕ → ℕ → History
-sectionOf t at = recordsAt (word t) (at + 3) (word t at)
-
 -- the same on a table, where the sections of p and q start at the words `at` and `from`
 abbrev pub receiptRowsAt : List ℕ → ℕ → ℕ → ℕ → ℕ → ℕ → ℕ → List Row
-receiptRowsAt t e at from p q k = receiptRows e (word t at) (word t (at + 1)) (sectionOf t at) (sectionOf t from) p q k
+receiptRowsAt t e at from p q k = receiptRows e (word t at) (word t (at + 1)) (sectionOf (word t) at) (sectionOf (word t) from) p q k
 
 -- the row that stops a step on the table t
 abbrev pub stepRow : List ℕ → ℕ → Call → ℕ → ℕ

@@ -5,10 +5,10 @@ ghost use Prim.Native.Nat.{_+_, _*_, _≤_};
 ghost use lib.ListN.{length};
 ghost use Rattle.xdr.specs.Words.{word};
 ghost use Rattle.rules.specs.Records.{history, carried};
-ghost use Rattle.rules.specs.Table.{decoded};
+ghost use Rattle.rules.specs.Table.{sectionOf, decoded};
 ghost use Rattle.rules.specs.Steps.{checkpoint, send, receipt};
 ghost use Rattle.rules.specs.Calls.{first};
-ghost use Rattle.rows.specs.Rows.{actRows, pairRows, sectionOf, receiptRowsAt, stepRow};
+ghost use Rattle.rows.specs.Rows.{actRows, pairRows, receiptRowsAt, stepRow};
 
 // The first row met, as far as the table, an area that wants `want` bytes and the acting process go, or 0.
 fn act_row(t: &[u8], len: usize, want: usize, p: usize) -> u32
@@ -91,7 +91,7 @@ fn needed(forces: bool) -> usize
 // Message k of q, whose section starts at word `from`, to p, whose section starts at word `at`.
 fn message_row(t: &[u8], e: usize, at: usize, from: usize, p: usize, q: usize, k: usize) -> Message
     requires { ⌜ (e ≤ 1024) × (at ≤ 65536) × (from ≤ 65536) × (word (now t) at ≤ e) × (word (now t) from ≤ e) × (4 * (at + 3 + 3 * e) ≤ length (now t)) × (4 * (from + 3 + 3 * e) ≤ length (now t)) ⌝ }
-    ensures { λ r. ⌜ (r .row ≡ first (receiptRowsAt (now (t .entry)) e at from p q k)) × (r .row ≡ 0 → r .carried ≡ carried (sectionOf (now (t .entry)) from) k) ⌝ }
+    ensures { λ r. ⌜ (r .row ≡ first (receiptRowsAt (now (t .entry)) e at from p q k)) × (r .row ≡ 0 → r .carried ≡ carried (sectionOf (word (now (t .entry))) from) k) ⌝ }
 {
     let c = xdr::size(t, at);
     let m = scans::find_send(t, from + 3, xdr::size(t, from), k);

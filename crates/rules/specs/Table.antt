@@ -60,8 +60,12 @@ recordsAt w at (suc i) = eventOf (w (at + 3 * i)) (w (at + 3 * i + 1)) (w (at + 
 abbrev pub start : ℕ → ℕ → ℕ
 start E p = 2 + p * (3 * (E + 1))
 
+-- the records of the section that starts at word `at`, and those of section p
+abbrev pub sectionOf : (ℕ → ℕ) → ℕ → History
+sectionOf w at = recordsAt w (at + 3) (w at)
+
 abbrev pub sectionAt : (ℕ → ℕ) → ℕ → ℕ → History
-sectionAt w E p = recordsAt w (start E p + 3) (w (start E p))
+sectionAt w E p = sectionOf w (start E p)
 
 -- n sections, the first of them section p
 abbrev pub sectionsFrom : (ℕ → ℕ) → ℕ → ℕ → ℕ → State

@@ -62,6 +62,7 @@ pub record Case : Type 0 where
 abbrev case : Outcome → List ℕ → Case
 case o ws = record { given = told o; stated = ws }
 
+-- P1 to P3, lines 0, 1 and 2; P4 to P8, masks 0, 1, 2, 4 and 8; P9 and P10, two receipts
 abbrev pub cases : List Case
 cases =
     case (lineOn worked (area 3) 0) (0 ∷ 0 ∷ 0 ∷ 0 ∷ [])
@@ -76,7 +77,6 @@ cases =
     ∷ case (stepOn worked (area 2) 1 (receipt 0 2)) (7 ∷ [])
     ∷ []
 
--- P1 to P10
 pub worked-cases : map (λ (c : Case). c .given) cases ≡ map (λ (c : Case). c .stated) cases
 unfolding freshOn stepOn lineOn failedOn layout decoded wellLaid word failureAnswer failureLine rounds round ones onesIn
 worked-cases = refl

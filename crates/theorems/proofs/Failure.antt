@@ -6,10 +6,10 @@ use mathlib.Core.List.{List, [], _∷_, map, List·Memᴰ, List·Memᴰ·head, L
 use Prim.Native.Nat.{ℕ, zero, suc, _+_, _≤_, _<_, zero-le}
 use native.Mathlib.Nat.{le-refl, le-trans, zero-add, suc-add, add-suc, add-zero, not-suc-le-zero, le-of-suc-le-suc}
 use native.Mathlib.Omega.{arith}
-use native.Mathlib.Decide.{decLe, ℕ-discrete}
+use native.Mathlib.Decide.{decLe}
 use lib.Dec.{leb, eqb}
-use lib.ListN.{length, getD, set, List·getD-eq-default}
-use lib.Seq.{ext-getD, getD-set-same, getD-set-other}
+use lib.ListN.{length, getD, List·getD-eq-default}
+use lib.Seq.{ext-getD}
 use borrow.Author.Tests.{leb-true, leb-false, lt-leb, eqb-true, eq-eqb, ne-eqb, not-false}
 use Rattle.rules.specs.Records.{Event, basic, forced, sent, received, History, State, history, hasSend}
 use Rattle.rules.specs.Lines.{upto, part, orphan, NoOrphan, isCheckpoint, failed, saved, permitted, Permitted, IsFailureLine, lastSaved, any, before, lowered, eachFrom, round, rounds, top, sum, failureLine}
@@ -120,10 +120,6 @@ before-older o (e ∷ h) = go (o e || any o h) (before-older o h)
 before-less : (o : Event → Bool) (h : History) → any o h ≡ true → length (before o h) < length h
 before-less o [] e = clash false e refl
 before-less o (x ∷ h) e = let l = older-length (before-older o h) in rw e (omega arith)
-
-any-tail : (o : Event → Bool) {g h : History} → Older g h → any o h ≡ false → any o g ≡ false
-any-tail o same e = e
-any-tail o (newer {e = x} {g = y} r) e = any-tail o r (or-false (o x) (any o y) e .1)
 
 -- an older part without orphans is an older part of what was before the first one
 before-keeps : (o : Event → Bool) {g h : History} → Older g h → any o g ≡ false → Older g (before o h)
@@ -435,19 +431,3 @@ failure-unique mask s a b A B =
     let f = B .latest a (A .permit) (A .clean) i (omega arith) in
     let g = A .latest b (B .permit) (B .clean) i (omega arith) in
     omega arith)
-
--- lowering one process passes by no permitted cut without orphans
-pub lower-one : (mask : ℕ) (s : State) (other cut : List ℕ) → Permitted mask s other → NoOrphan s other → AtMost other cut
-    → (p : ℕ) → p < length s → p < length cut → AtMost other (set cut p (lowered s cut p (getD cut p 0)))
-lower-one mask s other cut P clean a p lt lt′ r = go (ℕ-discrete r p)
-  where
-    t : ℕ
-    t = lowered s cut p (getD cut p 0)
-
-    kept : getD other p 0 ≤ t
-    kept = lowered-keeps s cut (failed mask p) p (getD other p 0) (getD cut p 0) (a p) (P .each p lt)
-        (none-any (orphan s cut p) (part s other p) (λ e m. orphan-later s other cut a p e (clean p e m)))
-
-    go : Dec (r ≡ p) → getD other r 0 ≤ getD (set cut p t) r 0
-    go (yes e) = rw (e, getD-set-same cut p t 0 lt′) kept
-    go (no ne) = rw (getD-set-other cut p r t 0 ne) (a r)

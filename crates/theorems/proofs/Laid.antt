@@ -260,12 +260,13 @@ pub record InRange (n E : ℕ) : Type 0 where
   pub some-record : 1 ≤ E
   pub records : E ≤ 1024
 
+-- the largest number of any table
+pub product : (n E : ℕ) → n ≤ 16 → E ≤ 1024 → n * E ≤ 16384
+product n E a b = mul-le-mul {n₁ = n} {m₁ = E} {n₂ = 16} {m₂ = 1024} a b
+
 module _ (n E : ℕ) (d : InRange n E) (s : State) (M : Made n E s) where
   abbrev words : List ℕ
   words = n ∷ E ∷ sectionsWords E s
-
-  product : n * E ≤ 16384
-  product = mul-le-mul (d .processes) (d .records)
 
   small-words : Small words
   small-words =
@@ -274,7 +275,7 @@ module _ (n E : ℕ) (d : InRange n E) (s : State) (M : Made n E s) where
         omega arith,
         (
           omega arith,
-          small-sections n E a b product s 0 (M .short) (number-le n E s M) (λ q. subst (λ (i : ℕ). Legal n E i (history s q)) (sym (zero-add q)) (legal n E s M q)),
+          small-sections n E a b (product n E a b) s 0 (M .short) (number-le n E s M) (λ q. subst (λ (i : ℕ). Legal n E i (history s q)) (sym (zero-add q)) (legal n E s M q)),
         ),
       )
 

@@ -80,11 +80,6 @@ total-set [] p g lt = absurd (not-suc-le-zero lt)
 total-set (h ∷ s) zero g lt = omega arith
 total-set (h ∷ s) (suc p) g lt = let r = total-set s p g (le-of-suc-le-suc lt) in omega arith
 
-total-fresh : (n : ℕ) → total (fresh n) ≡ 0
-unfolding total
-total-fresh zero = refl
-total-fresh (suc n) = let r = total-fresh n in omega arith
-
 total-le : (s : State) (E : ℕ) → ((p : ℕ) → length (history s p) ≤ E) → total s ≤ length s * E
 unfolding total
 total-le [] E h = zero-le

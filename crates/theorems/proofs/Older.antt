@@ -1,5 +1,5 @@
 -- The older parts of a list whose newest element is first.
-use mathlib.Core.List.{List, [], _∷_, _++_}
+use mathlib.Core.List.{List, _∷_}
 use Prim.Native.Nat.{_≤_}
 use native.Mathlib.Omega.{arith}
 use native.Mathlib.Nat.{le-refl}
@@ -18,11 +18,3 @@ module _ {A : Type 0} where
   pub older-length : {h g : List A} → Older h g → length h ≤ length g
   older-length {h} same = le-refl (length h)
   older-length (newer o) = let r = older-length o in omega arith
-
-  pub older-nil : (g : List A) → Older [] g
-  older-nil [] = same
-  older-nil (e ∷ g) = newer (older-nil g)
-
-  pub older-append : (xs h : List A) → Older h (xs ++ h)
-  older-append [] h = same
-  older-append (x ∷ xs) h = newer (older-append xs h)

@@ -3,7 +3,7 @@ use mathlib.Core.Path.{_≡_, refl, sym}
 use mathlib.Core.Bool.{Bool, true, false, cond, _&&_}
 use mathlib.Core.List.{List, [], _∷_, _++_}
 use Prim.Native.Nat.{ℕ, zero, suc, _+_, _-_, _*_, _≤_, _<_, zero-le}
-use native.Mathlib.Nat.{le-trans, mul-le-mul}
+use native.Mathlib.Nat.{le-trans}
 use native.Mathlib.Omega.{arith}
 use native.Mathlib.Decide.{decLt}
 use lib.Dec.{leb, eqb}
@@ -17,7 +17,7 @@ use Rattle.rules.specs.Table.{layout, sectionsOk, decoded, size, inRange, wellL
 use Rattle.theorems.proofs.Histories.{holds-held}
 use Rattle.theorems.proofs.Steps.{NoneMet, Numbered, Message, Accepted, grown-length}
 use Rattle.xdr.proofs.Laws.{Bytes, Small}
-use Rattle.theorems.proofs.Laid.{InRange, Legal, sends-length}
+use Rattle.theorems.proofs.Laid.{InRange, product, Legal, sends-length}
 use Rattle.theorems.proofs.WellLaid.{IsTable, and-left, and-right, sections-each, section-of, addedWords, decoded-is, decoded-at, decoded-short, from-beyond}
 use Rattle.theorems.proofs.Stores.{headWords, stored, stored-layout}
 
@@ -51,12 +51,12 @@ legal-carried n E p (sent q ∷ h) k L = go (eqb k (suc (sends h))) (legal-carri
 -- ---- what an accepted call stores fits
 
 module _ (n E : ℕ) (d : InRange n E) (s : State) (short : (q : ℕ) → length (history s q) ≤ E) (L : (q : ℕ) → Legal n E q (history s q)) where
-  product : n * E ≤ 16384
-  product = mul-le-mul (d .processes) (d .records)
+  most : n * E ≤ 16384
+  most = product n E (d .processes) (d .records)
 
   small-call : (p : ℕ) (call : Call) → Accepted n E s p call
       → Small (headWords (added (history s p) call (carries s call)) (history s p)) × Small (addedWords (added (history s p) call (carries s call)) (history s p))
-  small-call p call A = go call (A .free) (A .message) (le-trans (legal-number n E p h (L p)) product) (sends-length h) (d .processes) (d .records)
+  small-call p call A = go call (A .free) (A .message) (le-trans (legal-number n E p h (L p)) most) (sends-length h) (d .processes) (d .records)
     where
       h : History
       h = history s p
@@ -77,7 +77,7 @@ module _ (n E : ℕ) (d : InRange n E) (s : State) (short : (q : ℕ) → length
       go (send q) f m a z x g = let y = m .0 in (omega arith, omega arith)
       go (receipt q k) f m a z x g =
           received-small q k (forces h (carried (history s q) k)) f (m .0) (sent-few q k (m .2))
-          (le-trans (legal-carried n E q (history s q) k (L q)) product) a z x g
+          (le-trans (legal-carried n E q (history s q) k (L q)) most) a z x g
 
 -- ---- the call
 

@@ -16,7 +16,7 @@ use Rattle.rules.specs.Table.{sectionWords, start, recordsAt, decoded}
 use Rattle.rules.specs.Steps.{Call}
 use Rattle.rules.specs.Calls.{areaLength, outcome, Row, row, first, tableRows, laterRows, stepRows, judged}
 use Rattle.theorems.proofs.Steps.{Numbered, none-met, first-append, Accepted, accepted-met}
-use Rattle.theorems.proofs.Laid.{sends-length}
+use Rattle.theorems.proofs.Laid.{product, sends-length}
 use Rattle.theorems.proofs.WellLaid.{decoded-at, decoded-words, decoded-short}
 use Rattle.theorems.proofs.OneCall.{split-zero, Whole, whole, table-legal, legal-number, legal-carried}
 
@@ -45,9 +45,6 @@ going rs qs w e z = first-append rs qs (none-met rs w (sym e ∙ z))
 
 pub long : (t : List ℕ) {r : ℕ} → r ≡ first (tableRows t) → r ≡ 0 → 8 ≤ length t
 long t e z = ltb-false (length t) 8 (none-met (tableRows t) tt (sym e ∙ z) .0)
-
-pub unstopped : (t : List ℕ) → Bytes t → {r : ℕ} → r ≡ first (tableRows t) → r ≡ 0 → Whole t
-unstopped t b e z = whole t b (none-met (tableRows t) tt (sym e ∙ z))
 
 -- of a process p below n, whose section starts at word `at`: the section lies in the table, and its words are those of p's history
 pub record Head (t : List ℕ) (p E at : ℕ) : Type 0 where
@@ -86,7 +83,7 @@ head t W p lt {E} {at} e s = rw (s, e) here
         let l = W .is .whole in
         let r = W .range .records in
         let g = W .range .processes in
-        let b = mul-le-mul {n₁ = n} {m₁ = F} {n₂ = 16} {m₂ = 1024} g r in
+        let b = product n F g r in
         let d = mul-le-mul {n₁ = p} {m₁ = 3 * (F + 1)} {n₂ = 16} {m₂ = 3075} (omega arith) (omega arith) in
         let k = sends-length h in
         let y = decoded-short n F t (W .is) p in
@@ -111,7 +108,7 @@ head t W p lt {E} {at} e s = rw (s, e) here
 pub carried-low : (t : List ℕ) → Whole t → (q k : ℕ) → carried (history (decoded t) q) k ≤ 16384
 carried-low t W q k =
     le-trans (legal-carried (word t 0) (word t 1) q (history (decoded t) q) k (table-legal (word t 0) (word t 1) t (W .is) q))
-    (mul-le-mul (W .range .processes) (W .range .records))
+    (product (word t 0) (word t 1) (W .range .processes) (W .range .records))
 
 -- ---- a step that meets no row
 

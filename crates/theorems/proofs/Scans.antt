@@ -30,12 +30,6 @@ either : {A : Type 0} (x y : Bool) (u v : A) → cond x u (cond y u v) ≡ cond 
 either true y u v = refl
 either false y u v = refl
 
--- the same value for all kinds but one
-only-first : {A : Type 0} (x y : Bool) (u v : A) → cond x u (cond y v v) ≡ cond x u v
-only-first true y u v = refl
-only-first false true u v = refl
-only-first false false u v = refl
-
 -- the value of a kind that is not told from the rest first
 second-only : {A : Type 0} (kind : ℕ) (u v : A) → cond (eqb kind 4) v (cond (eqb kind 3) u v) ≡ cond (eqb kind 3) u v
 second-only kind u v = go (test (eqb kind 4))

@@ -6,7 +6,7 @@ use Rattle.xdr.specs.Words.{word}
 use Rattle.rules.specs.Records.{number, sends}
 use Rattle.rules.specs.Table.{recordsAt, recordsOk}
 use Rattle.theorems.proofs.Scans.{laid-next, number-next, sends-next, sends-at-most}
-use Rattle.layout.proofs.Laws.{product}
+use Rattle.theorems.proofs.Laid.{product}
 use Rattle.layout.proofs.used.Statement.{statement}
 use Rattle.layout.proofs.used.Tie as tie
 

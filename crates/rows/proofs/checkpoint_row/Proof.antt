@@ -3,7 +3,7 @@ use native.Mathlib.Omega.{arith}
 use borrow.Author.Needs.{needs}
 use Rattle.rules.specs.Steps.{checkpoint}
 use Rattle.theorems.proofs.Outcomes.{head}
-use Rattle.layout.proofs.Laws.{product}
+use Rattle.theorems.proofs.Laid.{product}
 use Rattle.rows.proofs.Rows.{acts, step-stopped, checkpoint-full, checkpoint-number, checkpoint-none}
 use Rattle.rows.proofs.checkpoint_row.Statement.{statement}
 use Rattle.rows.proofs.checkpoint_row.Tie as tie
