@@ -114,21 +114,18 @@ abbrev pub before : (Event → Bool) → History → History
 before o [] = []
 before o (e ∷ h) = cond (o e || any o h) (before o h) (e ∷ h)
 
--- position t of process p, lowered to the latest saved position before its first orphan, if there is one
-abbrev pub lowered : State → List ℕ → ℕ → ℕ → ℕ
-lowered s cut p t =
-    let h = upto t (history s p) in
-    let o = orphan s cut p in
-    cond (any o h) (lastSaved (before o h)) t
+-- position t of history h, lowered to the latest saved position before the first record for which a test holds, if there is one
+abbrev pub lowered : (Event → Bool) → History → ℕ → ℕ
+lowered o h t = cond (any o (upto t h)) (lastSaved (before o (upto t h))) t
 
 -- f i x for each element x, at index i
 abbrev pub eachFrom : {A : Type 0} → ℕ → (ℕ → A → ℕ) → List A → List ℕ
 eachFrom i f [] = []
 eachFrom i f (x ∷ xs) = f i x ∷ eachFrom (suc i) f xs
 
--- every process lowered once
+-- every process lowered once, to before its first orphan
 unfoldable pub round : State → List ℕ → List ℕ
-round s cut = eachFrom 0 (lowered s cut) cut
+round s cut = eachFrom 0 (λ p t. lowered (orphan s cut p) (history s p) t) cut
 
 unfoldable pub rounds : ℕ → State → List ℕ → List ℕ
 rounds zero s cut = cut

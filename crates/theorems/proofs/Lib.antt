@@ -10,6 +10,7 @@ pub mod WellLaid
 pub mod Stores
 pub mod OneCall
 pub mod Demand3
+pub mod Cuts
 pub mod Failure
 pub mod Scans
 pub mod Outcomes

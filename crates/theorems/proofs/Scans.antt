@@ -14,7 +14,7 @@ use Rattle.theorems.proofs.Laid.{sends-length}
 use Rattle.theorems.proofs.WellLaid.{records-length}
 
 -- a value that is the same for basic and forced checkpoints
-event : {A : Type 0} (f : Event → A) (kind a b : ℕ) → f (forced a) ≡ f (basic a)
+pub event : {A : Type 0} (f : Event → A) (kind a b : ℕ) → f (forced a) ≡ f (basic a)
     → f (eventOf kind a b) ≡ cond (eqb kind 4) (f (received a b)) (cond (eqb kind 3) (f (sent a)) (f (basic a)))
 event {A} f kind a b e = go (eqb kind 4) (eqb kind 3) (eqb kind 2)
   where
@@ -31,7 +31,7 @@ either true y u v = refl
 either false y u v = refl
 
 -- the value of a kind that is not told from the rest first
-second-only : {A : Type 0} (kind : ℕ) (u v : A) → cond (eqb kind 4) v (cond (eqb kind 3) u v) ≡ cond (eqb kind 3) u v
+pub second-only : {A : Type 0} (kind : ℕ) (u v : A) → cond (eqb kind 4) v (cond (eqb kind 3) u v) ≡ cond (eqb kind 3) u v
 second-only kind u v = go (test (eqb kind 4))
   where
     go : Test (eqb kind 4) → cond (eqb kind 4) v (cond (eqb kind 3) u v) ≡ cond (eqb kind 3) u v

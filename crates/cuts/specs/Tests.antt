@@ -1,0 +1,39 @@
+-- What the scans for a failure line ask of a record.
+use mathlib.Core.Bool.{Bool, false, not, cond}
+use mathlib.Core.List.{List, [], _∷_}
+use Prim.Native.Nat.{ℕ, suc, _+_, _*_, _%_}
+use lib.Dec.{ltb, eqb}
+use lib.ListN.{length, getD, set}
+use Rattle.rules.specs.Records.{Event, basic, forced, sent, received, History, sends}
+
+-- a receipt whose send number is above the sender's count of sends, of which there are sixteen
+abbrev pub late : List ℕ → Event → Bool
+late counts (basic m) = false
+late counts (forced m) = false
+late counts (sent q) = false
+late counts (received q k) = ltb (getD counts (q % 16) 0) k
+
+-- ---- where sends go: that of send k of process q stands at place q × E + k
+
+-- the place, 0 where a list of this length doesn't have it
+abbrev pub place : ℕ → ℕ → ℕ → ℕ → ℕ
+place E len q k = cond (ltb (q * E + k) len) (q * E + k) 0
+
+-- a receipt at process p whose send is not there, or goes to another process
+abbrev pub unsent : ℕ → ℕ → List ℕ → Event → Bool
+unsent E p to (basic m) = false
+unsent E p to (forced m) = false
+unsent E p to (sent q) = false
+unsent E p to (received q k) = not (eqb (getD to (place E (length to) q k) 0) p)
+
+-- what stands at the place of the next send once a record is read: its destination, 16 if it is no send
+abbrev pub noteOf : Event → ℕ
+noteOf (basic m) = 16
+noteOf (forced m) = 16
+noteOf (sent q) = q % 32
+noteOf (received q k) = 16
+
+-- the list after the records of process q
+abbrev pub noted : ℕ → ℕ → History → List ℕ → List ℕ
+noted E q [] to = to
+noted E q (e ∷ h) to = set (noted E q h to) (q * E + sends h + 1) (noteOf e)

@@ -1,0 +1,104 @@
+// Scans of one process's records for a failure line. `at` is the word at which the records start, and c how many are in the cut.
+ghost use mathlib.Core.Path.{_≡_};
+ghost use Prim.Native.Nat.{_+_, _*_, _≤_, _<_};
+ghost use lib.Dec.{eqb};
+ghost use lib.ListN.{length};
+ghost use Rattle.xdr.specs.Words.{word};
+ghost use Rattle.rules.specs.Records.{sends as sendsOf};
+ghost use Rattle.rules.specs.Table.{recordsAt};
+ghost use Rattle.rules.specs.Lines.{lastSaved, before};
+ghost use Rattle.cuts.specs.Tests.{late, place as placeOf, unsent, noted};
+
+// Where a process stands in a cut: how many of its records have happened, and how many of these are sends.
+pub struct Part {
+    pub position: usize,
+    pub sends: usize,
+}
+
+// Whether position i is 0 or a checkpoint's.
+fn saved(t: &[u8], at: usize, i: usize) -> bool
+    requires { ⌜ (i ≤ 1024) × (4 * (at + 3 * i) ≤ length (now t)) ⌝ }
+    ensures { λ r. ⌜ r ≡ eqb (lastSaved (recordsAt (word (now (t .entry))) at i)) i ⌝ }
+{
+    if i == 0 {
+        return true;
+    }
+    let kind = xdr::size(t, at + 3 * (i - 1));
+    !((kind == 4) | (kind == 3))
+}
+
+// From position c, before which there are k sends, back to the latest saved position that is at most r.
+pub fn back_to(t: &[u8], at: usize, c: usize, k: usize, r: usize) -> Part
+    requires { ⌜ (r ≤ c) × (c ≤ 1024) × (4 * (at + 3 * c) ≤ length (now t)) × (k ≡ sendsOf (recordsAt (word (now t)) at c)) ⌝ }
+    ensures { λ x. ⌜ (x .position ≡ lastSaved (recordsAt (word (now (t .entry))) at r)) × (x .sends ≡ sendsOf (recordsAt (word (now (t .entry))) at (x .position))) ⌝ }
+{
+    let mut i = c;
+    let mut sends = k;
+    while (r < i) | !saved(t, at, i) {
+        i -= 1;
+        sends -= layout::pick(xdr::size(t, at + 3 * i) == 3, 1, 0);
+    }
+    Part {
+        position: i,
+        sends: sends,
+    }
+}
+
+// How many records come before the first one that is late, c if none is.
+pub fn first_late(t: &[u8], at: usize, c: usize, sends: [usize; 16]) -> usize
+    requires { ⌜ (c ≤ 1024) × (4 * (at + 3 * c) ≤ length (now t)) ⌝ }
+    ensures { λ r. ⌜ r ≡ length (before (late sends) (recordsAt (word (now (t .entry))) at c)) ⌝ }
+{
+    let mut i: usize = 0;
+    while i < c {
+        let w = at + 3 * i;
+        let q = xdr::size(t, w + 1) % 16;
+        if (xdr::size(t, w) == 4) & (sends[q] < xdr::size(t, w + 2)) {
+            return i;
+        }
+        i += 1;
+    }
+    c
+}
+
+// The place of send k of process q in a list of len places.
+fn place(e: usize, len: usize, q: usize, k: usize) -> usize
+    requires { ⌜ (e ≤ 1024) × (q < 4294967296) × (k < 4294967296) ⌝ }
+    ensures { λ r. ⌜ r ≡ placeOf e len q k ⌝ }
+{
+    let x = q * e + k;
+    layout::pick(x < len, x, 0)
+}
+
+// How many records of process p come before the first one that is unsent, c if none is.
+pub fn first_unsent(t: &[u8], at: usize, c: usize, e: usize, p: u8, to: &[u8]) -> usize
+    requires { ⌜ (c ≤ 1024) × (4 * (at + 3 * c) ≤ length (now t)) × (e ≤ 1024) × (0 < length (now to)) ⌝ }
+    ensures { λ r. ⌜ r ≡ length (before (unsent e p (now (to .entry))) (recordsAt (word (now (t .entry))) at c)) ⌝ }
+{
+    let mut i: usize = 0;
+    while i < c {
+        let w = at + 3 * i;
+        let x = place(e, to.len(), xdr::size(t, w + 1), xdr::size(t, w + 2));
+        if (xdr::size(t, w) == 4) & (to[x] != p) {
+            return i;
+        }
+        i += 1;
+    }
+    c
+}
+
+// Notes where the sends of process q go.
+pub fn note(t: &[u8], at: usize, c: usize, e: usize, q: usize, to: &mut [u8])
+    requires { ⌜ (c ≤ e) × (e ≤ 1024) × (q < 16) × (4 * (at + 3 * c) ≤ length (now t)) × (q * e + e < length (now to)) ⌝ }
+    ensures { λ _. ⌜ now (to .exit) ≡ noted e q (recordsAt (word (now (t .entry))) at c) (now (to .entry)) ⌝ }
+{
+    let mut k: usize = 0;
+    let mut i: usize = 0;
+    while i < c {
+        let w = at + 3 * i;
+        let kind = xdr::size(t, w);
+        to[q * e + k + 1] = layout::pick(kind == 3, xdr::size(t, w + 1) % 32, 16) as u8;
+        k = layout::pick(kind == 3, k + 1, k);
+        i += 1;
+    }
+}
