@@ -1,5 +1,5 @@
 -- Laws of cuts at one process: the first records of a history, saved and permitted positions, and positions that are lowered.
-use mathlib.Core.Path.{_≡_, refl, sym, ap, ap₂, _∙_}
+use mathlib.Core.Path.{_≡_, refl, sym, ap, ap₂, _∙_, subst}
 use mathlib.Core.Logic.{_⊎_, inl, inr}
 use mathlib.Core.Bool.{Bool, true, false, not, cond, _&&_, _||_, and-eq-true-iff}
 use mathlib.Core.List.{List, [], _∷_, map, List·Memᴰ, List·Memᴰ·head, List·Memᴰ·tail, List·Memᴰ·not-nil}
@@ -16,6 +16,7 @@ use Rattle.rules.specs.Lines.{upto, part, orphan, NoOrphan, isCheckpoint, faile
 use Rattle.theorems.proofs.Older.{Older, same, newer, older-trans, older-length}
 use Rattle.theorems.proofs.Histories.{Test, passes, fails, test, holds-older}
 use Rattle.theorems.proofs.Steps.{or-false}
+use Rattle.theorems.proofs.Lines.{upto-older}
 
 pub true-or : (a b : Bool) → (a || b) ≡ true → (a ≡ true) ⊎ (b ≡ true)
 true-or true b e = inl refl
@@ -136,6 +137,22 @@ any-none o [] x e m = absurd (List·Memᴰ·not-nil m)
 any-none o (y ∷ h) x e (List·Memᴰ·head q) = rw q (or-false (o y) (any o h) x .0)
 any-none o (y ∷ h) x e (List·Memᴰ·tail m) = any-none o h (or-false (o y) (any o h) x .1) e m
 
+pub before-all : (o : Event → Bool) (h : History) → any o h ≡ false → before o h ≡ h
+before-all o [] e = refl
+before-all o (x ∷ h) e = rw e
+
+pub any-older : (o : Event → Bool) {g h : History} → Older g h → any o h ≡ false → any o g ≡ false
+any-older o same e = e
+any-older o (newer {e = x} {g = y} r) e = any-older o r (or-false (o x) (any o y) e .1)
+
+before-none : (o : Event → Bool) (h : History) → any o (before o h) ≡ false
+before-none o [] = refl
+before-none o (x ∷ h) = go (test (o x || any o h)) (before-none o h)
+  where
+    go : Test (o x || any o h) → any o (before o h) ≡ false → any o (cond (o x || any o h) (before o h) (x ∷ h)) ≡ false
+    go (passes y) n = rw y n
+    go (fails y) n = rw y y
+
 pub none-any : (o : Event → Bool) (h : History) → ((e : Event) → List·Memᴰ e h → o e ≡ false) → any o h ≡ false
 none-any o [] f = refl
 none-any o (y ∷ h) f = rw (f y (List·Memᴰ·head refl)) (none-any o h (λ e m. f e (List·Memᴰ·tail m)))
@@ -157,18 +174,38 @@ module _ (o : Event → Bool) (h : History) where
       go true = le-trans (last-le (before o (upto t h))) (le-trans (older-length (before-older o (upto t h))) (upto-length t h))
       go false = le-refl t
 
-  -- a position that stays has no record for which the test holds below it
+  -- a position with a record for which the test holds below it is lowered
+  pub lowered-less : (t : ℕ) → any o (upto t h) ≡ true → lowered o h t < t
+  lowered-less t x =
+      let a = before-less o (upto t h) x in
+      let b = last-le (before o (upto t h)) in
+      let c = upto-length t h in
+      rw x (omega arith)
+
   pub lowered-same : (t : ℕ) → lowered o h t ≡ t → any o (upto t h) ≡ false
   lowered-same t e = go (test (any o (upto t h)))
     where
       go : Test (any o (upto t h)) → any o (upto t h) ≡ false
-      go (passes x) =
-          let e′ : lastSaved (before o (upto t h)) ≡ t = rw x at e in
-          let a = before-less o (upto t h) x in
-          let b = last-le (before o (upto t h)) in
-          let c = upto-length t h in
-          absurd (omega arith)
+      go (passes x) = let l = lowered-less t x in absurd (omega arith)
       go (fails x) = x
+
+  -- below a lowered position the test holds for no record
+  pub lowered-none : (t : ℕ) → any o (upto (lowered o h t) h) ≡ false
+  lowered-none t = go (test (any o (upto t h)))
+    where
+      g : History
+      g = before o (upto t h)
+
+      o-g : Older g h
+      o-g = older-trans (before-older o (upto t h)) (upto-is-older t h)
+
+      -- what is up to a position of an older part is older than that part
+      inside : Older (upto (lastSaved g) h) g
+      inside = subst (λ (x : History). Older (upto (lastSaved g) h) x) (upto-older o-g) (upto-mono (lastSaved g) (length g) h (last-le g))
+
+      go : Test (any o (upto t h)) → any o (upto (cond (any o (upto t h)) (lastSaved g) t) h) ≡ false
+      go (passes x) = rw x (any-older o inside (before-none o (upto t h)))
+      go (fails x) = rw x x
 
   pub lowered-permitted : (down : Bool) (t : ℕ) → permitted down h t ≡ true → permitted down h (lowered o h t) ≡ true
   lowered-permitted down t ok = go (any o (upto t h))

@@ -48,7 +48,7 @@ destination-cons (forced m) h k le = refl
 destination-cons (sent q) h k le = rw (ne-eqb k (suc (sends h)) (omega arith))
 destination-cons (received q j) h k le = refl
 
-destination-older : {h g : History} → Older h g → (k : ℕ) → k ≤ sends h → destination g k ≡ destination h k
+pub destination-older : {h g : History} → Older h g → (k : ℕ) → k ≤ sends h → destination g k ≡ destination h k
 destination-older same k le = refl
 destination-older (newer {e} {g} o) k le = destination-cons e g k (le-trans le (sends-older o)) ∙ destination-older o k le
 

@@ -1,0 +1,3 @@
+pub mod Cuts
+pub mod Steps
+pub mod Notes

@@ -1,0 +1,161 @@
+-- What is noted of sends, and that it finds the receipts that are orphans in every cut.
+use mathlib.Core.Path.{_≡_, refl, sym, ap, _∙_, subst}
+use mathlib.Core.Logic.{_≢_, _⊎_, inl, inr}
+use mathlib.Core.Bool.{Bool, true, false, not, cond, _&&_}
+use mathlib.Core.List.{List, [], _∷_}
+use Prim.Native.Nat.{ℕ, zero, suc, _+_, _*_, _%_, _≤_, _<_, zero-le}
+use native.Mathlib.Nat.{le-trans, mod-eq-of-lt, mul-le-mul-right}
+use native.Mathlib.Omega.{arith}
+use native.Mathlib.Decide.{decLt}
+use lib.Dec.{ltb, leb, eqb}
+use lib.ListN.{length, getD, set, length-set}
+use lib.Seq.{getD-set-same, getD-set-other}
+use borrow.Author.Tests.{lt-ltb, le-ltb, leb-true, leb-false, le-leb, lt-leb, eq-eqb, ne-eqb}
+use Rattle.xdr.specs.Words.{word}
+use Rattle.xdr.proofs.Laws.{Bytes}
+use Rattle.rules.specs.Records.{Event, basic, forced, sent, received, History, State, history, sends, destination, hasSend}
+use Rattle.rules.specs.Table.{start, recordsAt, decoded}
+use Rattle.rules.specs.Lines.{any, before}
+use Rattle.theorems.proofs.Histories.{Test, passes, fails, test, Each, each-older}
+use Rattle.theorems.proofs.Laid.{Law, Legal, sends-length}
+use Rattle.theorems.proofs.Cuts.{upto-is-older}
+use Rattle.cuts.specs.Tests.{place, unsent, noteOf, noted}
+use Rattle.lowering.specs.Lowering.{Laid, Counted, lost, goes, Noted, Blank}
+use Rattle.lowering.proofs.Cuts.{decEq}
+use Rattle.lowering.proofs.Steps.{lawful, section, View, view}
+
+module _ (E q : ℕ) (to : List ℕ) where
+  pub noted-length : (h : History) → length (noted E q h to) ≡ length to
+  noted-length [] = refl
+  noted-length (e ∷ h) = length-set (noted E q h to) (q * E + sends h + 1) (noteOf e) ∙ noted-length h
+
+  -- the places of other processes stay as they were
+  noted-other : (h : History) (j : ℕ) → (j ≤ q * E) ⊎ (q * E + length h < j) → getD (noted E q h to) j 0 ≡ getD to j 0
+  noted-other [] j o = refl
+  noted-other (e ∷ h) j o =
+      let l = sends-length h in
+      getD-set-other (noted E q h to) (q * E + sends h + 1) j (noteOf e) 0 (away o) ∙ noted-other h j (less o)
+    where
+      less : (j ≤ q * E) ⊎ (q * E + suc (length h) < j) → (j ≤ q * E) ⊎ (q * E + length h < j)
+      less (inl x) = inl x
+      less (inr x) = inr (omega arith)
+
+      away : (j ≤ q * E) ⊎ (q * E + suc (length h) < j) → j ≢ q * E + sends h + 1
+      away (inl x) z = absurd (omega arith)
+      away (inr x) z = let l = sends-length h in absurd (omega arith)
+
+  -- each place of q has where that send goes
+  noted-at : (n p : ℕ) → n ≤ 16 → q * E + E < length to → Blank to (q * E) → (h : History) → Legal n E p h → length h ≤ E → (k : ℕ) → 0 < k → k ≤ E
+      → getD (noted E q h to) (q * E + k) 0 ≡ goes h k
+  noted-at n p few room blank [] legal short k pos le = rw (lt-leb k 0 pos) (blank (q * E + k) (omega arith) (omega arith))
+  noted-at n p few room blank (e ∷ h) legal short k pos le =
+      go (decEq k (sends h + 1)) (noted-at n p few room blank h (legal .1) (omega arith) k pos le)
+    where
+      u : List ℕ
+      u = noted E q h to
+
+      here : (x : Event) → Law n E p x h → k ≡ sends h + 1 → noteOf x ≡ goes (x ∷ h) k
+      here (basic m) a z = rw (lt-leb k (sends h) (omega arith))
+      here (forced m) a z = rw (lt-leb k (sends h) (omega arith))
+      here (received r j) a z = rw (lt-leb k (sends h) (omega arith))
+      here (sent d) a z =
+          let s : k ≡ suc (sends h) = omega arith in
+          let m = a .0 in
+          rw (le-leb k (suc (sends h)) (omega arith), eq-eqb k (suc (sends h)) s) (mod-eq-of-lt (omega arith))
+
+      there : (x : Event) → k ≢ sends h + 1 → goes h k ≡ goes (x ∷ h) k
+      there (basic m) z = refl
+      there (forced m) z = refl
+      there (received r j) z = refl
+      there (sent d) z =
+          let ne : k ≢ suc (sends h) = (λ s. z (omega arith)) in
+          rw (ne-eqb k (suc (sends h)) ne) (ap (λ (b : Bool). cond b (destination h k) 16) (same (test (leb k (sends h)))))
+        where
+          same : Test (leb k (sends h)) → leb k (sends h) ≡ leb k (suc (sends h))
+          same (passes y) = y ∙ sym (le-leb k (suc (sends h)) (let l = leb-true k (sends h) y in omega arith))
+          same (fails y) = y ∙ sym (lt-leb k (suc (sends h)) (let l = leb-false k (sends h) y in omega arith))
+
+      go : Dec (k ≡ sends h + 1) → getD u (q * E + k) 0 ≡ goes h k → getD (set u (q * E + sends h + 1) (noteOf e)) (q * E + k) 0 ≡ goes (e ∷ h) k
+      go (yes z) r =
+          let i : q * E + k ≡ q * E + sends h + 1 = omega arith in
+          let m = noted-length h in
+          rw i (getD-set-same u (q * E + sends h + 1) (noteOf e) 0 (omega arith) ∙ here e (legal .0) z)
+      go (no z) r =
+          getD-set-other u (q * E + sends h + 1) (q * E + k) (noteOf e) 0 (λ i. z (omega arith)) ∙ r ∙ there e z
+
+-- one process more
+pub noted-next : (s : State) (n E p : ℕ) (to : List ℕ) → n ≤ 16 → p * E + E < length to → Noted s E to p → Blank to (p * E)
+    → Legal n E p (history s p) → length (history s p) ≤ E → {u : List ℕ} → u ≡ noted E p (history s p) to
+    → (length u ≡ length to) × Noted s E u (p + 1) × Blank u ((p + 1) * E)
+noted-next s n E p to few room N B legal short {u} e = rw e (
+  noted-length E p to h,
+  λ q k lt pos le. at q k lt pos le (decEq q p),
+  λ i a b.
+      let m = noted-length E p to h in
+      noted-other E p to h i (inr (omega arith)) ∙ B i (omega arith) (omega arith),
+)
+  where
+    h : History
+    h = history s p
+
+    at : (q k : ℕ) → q < p + 1 → 0 < k → k ≤ E → Dec (q ≡ p) → getD (noted E p h to) (q * E + k) 0 ≡ goes (history s q) k
+    at q k lt pos le (yes z) = rw z (noted-at E p to n p few room B h legal short k pos le)
+    at q k lt pos le (no ne) =
+        let m = mul-le-mul-right {m = q + 1} {n = p} E (omega arith) in
+        noted-other E p to h (q * E + k) (inl (omega arith)) ∙ N q k (omega arith) pos le
+
+-- ---- the test by what is noted is the test for receipts that are orphans in every cut
+
+before-same : (o o′ : Event → Bool) (P : Event → History → Type 0) → ((e : Event) (h : History) → P e h → o e ≡ o′ e) → (h : History) → Each P h
+    → (any o h ≡ any o′ h) × (before o h ≡ before o′ h)
+before-same o o′ P f [] r = (refl, refl)
+before-same o o′ P f (e ∷ h) r =
+    let b = before-same o o′ P f h (r .1) in
+    let a = f e h (r .0) in
+    (rw (a, b .0), rw (a, b .0, b .1))
+
+pub unsent-lost : (s : State) (n E p : ℕ) (to : List ℕ) → p < 16 → n * E < length to → Noted s E to n → (h : History) → Legal n E p h
+    → before (unsent E p to) h ≡ before (lost s p) h
+unsent-lost s n E p to lp room N h legal = before-same (unsent E p to) (lost s p) (Law n E p) same h legal .1
+  where
+    same : (e : Event) (g : History) → Law n E p e g → unsent E p to e ≡ lost s p e
+    same (basic m) g a = refl
+    same (forced m) g a = refl
+    same (sent d) g a = refl
+    same (received q k) g (lq, ne, pos, le) =
+        let m = mul-le-mul-right {m = q + 1} {n = n} E (omega arith) in
+        let i : place E (length to) q k ≡ q * E + k = rw (lt-ltb (q * E + k) (length to) (omega arith)) in
+        let z : eqb (getD to (place E (length to) q k) 0) p ≡ hasSend f p k =
+        rw (i, N q k lq pos le, lt-ltb 0 k pos) (go (leb k (sends f)) (destination f k))
+        in
+        ap not z
+      where
+        f : History
+        f = history s q
+
+        go : (b : Bool) (d : ℕ) → eqb (cond b d 16) p ≡ (b && eqb d p)
+        go true d = refl
+        go false d = ne-eqb 16 p (λ z. absurd (omega arith))
+
+-- ---- a table's sections
+
+module _ (t : List ℕ) (b : Bytes t) {n E : ℕ} (L : Laid t n E) (p : ℕ) (lt : p < n) {at : ℕ} (i : at ≡ start E p) where
+  pub note-turn : (to : List ℕ) → p * E + E < length to → Noted (decoded t) E to p → Blank to (p * E) → {c : ℕ} → c ≡ word t at
+      → {u : List ℕ} → u ≡ noted E p (recordsAt (word t) (at + 3) c) to
+      → (length u ≡ length to) × Noted (decoded t) E u (p + 1) × Blank u ((p + 1) * E)
+  note-turn to room N B z e =
+      let H = section t b L p lt i in
+      let d = H .count in
+      let f = H .short in
+      noted-next (decoded t) n E p to (L .3) room N B (lawful t b L p) (omega arith)
+      (e ∙ ap (λ (h : History). noted E p h to) (ap (recordsAt (word t) (at + 3)) z ∙ H .events))
+
+  -- what the scan finds is the first receipt that is an orphan in every cut
+  pub lost-first : (P S : List ℕ) → Counted (decoded t) P S → (to : List ℕ) → n * E < length to → Noted (decoded t) E to n
+      → {r : ℕ} → r ≡ length (before (unsent E p to) (recordsAt (word t) (at + 3) (getD P p 0)))
+      → r ≡ length (before (lost (decoded t) p) (recordsAt (word t) (at + 3) (getD P p 0)))
+  lost-first P S C to room N e =
+      let f = L .3 in
+      let here = view t b L P S C p lt i .here in
+      let legal = each-older (Law n E p) (upto-is-older (getD P p 0) (history (decoded t) p)) (lawful t b L p) in
+      e ∙ ap length (unsent-lost (decoded t) n E p to (omega arith) room N (recordsAt (word t) (at + 3) (getD P p 0)) (subst (Legal n E p) here legal))

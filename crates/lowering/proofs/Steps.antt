@@ -1,0 +1,301 @@
+-- One turn of the loops that lower a cut: what the scan of a process's records finds, and the cut after it is taken back.
+use mathlib.Core.Path.{_≡_, refl, sym, ap, _∙_, subst}
+use mathlib.Core.Logic.{_≢_}
+use mathlib.Core.Bool.{Bool, true, false, cond, _||_}
+use mathlib.Core.List.{List, [], _∷_}
+use Prim.Native.Nat.{ℕ, zero, suc, _+_, _*_, _≤_, _<_, zero-le}
+use native.Mathlib.Nat.{le-refl, le-trans}
+use native.Mathlib.Omega.{arith}
+use native.Mathlib.Decide.{decLt}
+use lib.Dec.{ltb, leb}
+use lib.ListN.{length, getD, set}
+use lib.Seq.{getD-set-same, getD-set-other}
+use borrow.Author.Tests.{ltb-true, lt-ltb, le-ltb, le-leb, lt-leb}
+use Rattle.xdr.specs.Words.{word}
+use Rattle.xdr.proofs.Laws.{Bytes}
+use Rattle.rules.specs.Records.{Event, History, State, history, sends}
+use Rattle.rules.specs.Table.{start, recordsAt, decoded}
+use Rattle.rules.specs.Lines.{upto, part, any, before, lastSaved, lowered, failed, permitted, top}
+use Rattle.rules.specs.Calls.{tableRows}
+use Rattle.theorems.proofs.Older.{Older, same, older-length}
+use Rattle.theorems.proofs.Histories.{Test, passes, fails, test}
+use Rattle.theorems.proofs.Steps.{none-met, or-false}
+use Rattle.theorems.proofs.Lines.{upto-older}
+use Rattle.theorems.proofs.Laid.{Legal}
+use Rattle.theorems.proofs.WellLaid.{records-length, decoded-length}
+use Rattle.theorems.proofs.OneCall.{Whole, whole, table-legal}
+use Rattle.theorems.proofs.Outcomes.{Head, head}
+use Rattle.theorems.proofs.Cuts.{last-le, top-le, top-permitted, top-latest, before-older, before-less, before-all, lowered-le, lowered-none, lowered-less, clash}
+use Rattle.cuts.specs.Tests.{late}
+use Rattle.lowering.specs.Lowering.{Laid, Counted, Over, Lowered, lost, NoneLost, NoneLate, total}
+use Rattle.lowering.proofs.Cuts.{decEq, lowered-refl, lowered-trans, part-same, part-other, set-counted, set-total, Fair, lower-fair}
+
+-- ---- older parts of the records from word `at` on
+
+module _ (w : ℕ → ℕ) (at : ℕ) where
+  records-upto : (i c : ℕ) → i ≤ c → upto i (recordsAt w at c) ≡ recordsAt w at i
+  records-upto i zero le = ap (recordsAt w at) (let e : 0 ≡ i = omega arith in e)
+  records-upto i (suc c) le = go (decLt i (suc c)) (records-upto i c)
+    where
+      h : History
+      h = recordsAt w at c
+
+      go : Dec (i < suc c) → (i ≤ c → upto i h ≡ recordsAt w at i) → upto i (recordsAt w at (suc c)) ≡ recordsAt w at i
+      go (yes l) f = let n = records-length w at c in rw (lt-leb (suc (length h)) i (omega arith)) (f (omega arith))
+      go (no l) f =
+          let n = records-length w at c in
+          rw (le-leb (suc (length h)) i (omega arith)) (ap (recordsAt w at) (let e : suc c ≡ i = omega arith in e))
+
+  records-older : (c : ℕ) {g : History} → Older g (recordsAt w at c) → g ≡ recordsAt w at (length g)
+  records-older c {g} o =
+      let n = records-length w at c in
+      let l = older-length o in
+      sym (upto-older o) ∙ records-upto (length g) c (omega arith)
+
+-- ---- a table whose rows are passed
+
+module _ (t : List ℕ) (b : Bytes t) {n E : ℕ} (L : Laid t n E) where
+  pub is-whole : Whole t
+  is-whole = whole t b (none-met (tableRows t) tt (L .0))
+
+  pub processes : length (decoded t) ≡ n
+  processes = decoded-length (word t 0) (word t 1) t (is-whole .is) ∙ sym (L .1)
+
+  pub lawful : (p : ℕ) → Legal n E p (history (decoded t) p)
+  lawful p = rw (L .1, L .2) (table-legal (word t 0) (word t 1) t (is-whole .is) p)
+
+  pub section : (p : ℕ) → p < n → {at : ℕ} → at ≡ start E p → Head t p E at
+  section p lt i = head t is-whole p (let e = L .1 in omega arith) (L .2) i
+
+  -- process p's part of a cut, where its section starts at word `at`
+  pub record View (P S : List ℕ) (p at : ℕ) : Type 0 where
+    pub inside : 4 * (at + 3 + 3 * getD P p 0) ≤ length t
+    pub small : getD P p 0 ≤ 1024
+    pub near : at ≤ 65536
+    pub all : history (decoded t) p ≡ recordsAt (word t) (at + 3) (word t at)
+    pub least : getD P p 0 ≤ word t at
+    pub here : part (decoded t) P p ≡ recordsAt (word t) (at + 3) (getD P p 0)
+    pub sent : getD S p 0 ≡ sends (recordsAt (word t) (at + 3) (getD P p 0))
+
+  pub view : (P S : List ℕ) → Counted (decoded t) P S → (p : ℕ) → p < n → {at : ℕ} → at ≡ start E p → View P S p at
+  view P S C p lt {at} i =
+      let H = section p lt i in
+      let e = processes in
+      let within = C .within p (omega arith) in
+      let c = H .count in
+      let short = H .short in
+      let most = H .most in
+      let room = H .inside in
+      let here : part (decoded t) P p ≡ recordsAt (word t) (at + 3) (getD P p 0) =
+      ap (upto (getD P p 0)) (sym (H .events)) ∙ records-upto (word t) (at + 3) (getD P p 0) (word t at) (omega arith)
+      in
+      record {
+        inside = omega arith;
+        small = omega arith;
+        near = H .near;
+        all = sym (H .events);
+        least = omega arith;
+        here = here;
+        sent = C .counted p (omega arith) ∙ ap sends here;
+      }
+
+  -- ---- the latest permitted position
+
+  module _ (p : ℕ) (lt : p < n) {at : ℕ} (i : at ≡ start E p) {c : ℕ} (z : c ≡ word t at) {down : Bool} where
+    pub top-down : down ≡ true → {x k : ℕ} → x ≡ lastSaved (recordsAt (word t) (at + 3) c) → k ≡ sends (recordsAt (word t) (at + 3) x)
+        → (x ≡ top down (history (decoded t) p)) × (k ≡ sends (upto x (history (decoded t) p)))
+    top-down d {x} a y =
+        let H = section p lt i in
+        let h = history (decoded t) p in
+        let e : recordsAt (word t) (at + 3) c ≡ h = ap (recordsAt (word t) (at + 3)) z ∙ H .events in
+        let l = last-le (recordsAt (word t) (at + 3) c) in
+        let m = records-length (word t) (at + 3) c in (
+          rw d (a ∙ ap lastSaved e),
+          y ∙ ap sends (sym (ap (upto x) (sym e) ∙ records-upto (word t) (at + 3) x c (omega arith))),
+        )
+
+    pub top-up : down ≡ false → {k : ℕ} → k ≡ word t (at + 2) → (c ≡ top down (history (decoded t) p)) × (k ≡ sends (upto c (history (decoded t) p)))
+    top-up d y =
+        let H = section p lt i in
+        let h = history (decoded t) p in
+        let e : c ≡ length h = z ∙ H .count in
+        let u : upto (length h) h ≡ h = upto-older same in
+        (rw d e, y ∙ H .sent ∙ ap sends (sym (ap (λ (j : ℕ). upto j h) e ∙ u)))
+
+-- ---- one process taken back
+
+-- from the positions P with counts S to P′ with S′, at process p for the test o; `moves` where p is taken back
+pub record Step (s : State) (P S P′ S′ : List ℕ) (n p : ℕ) (o : Event → Bool) (moves : Bool) : Type 0 where
+  pub counted : Counted s P′ S′
+  pub lowers : Lowered s P P′
+  pub none : any o (part s P′ p) ≡ false
+  pub others : (q : ℕ) → q ≢ p → part s P′ q ≡ part s P q
+  pub falls : total P′ n + cond moves 1 0 ≤ total P n
+  pub stays : moves ≡ false → (P ≡ P′) × (S ≡ S′)
+
+module _ (t : List ℕ) (b : Bytes t) {n E : ℕ} (L : Laid t n E) (P S : List ℕ) (C : Counted (decoded t) P S) (p : ℕ) (lt : p < n) {at : ℕ} (i : at ≡ start E p)
+    (o : Event → Bool) (fair : Fair (decoded t) P p o) where
+  abbrev held : State
+  held = decoded t
+
+  abbrev x : ℕ
+  x = getD P p 0
+
+  abbrev h : History
+  h = history held p
+
+  abbrev records : ℕ → History
+  records = recordsAt (word t) (at + 3)
+
+  seen : View t b L P S p at
+  seen = view t b L P S C p lt i
+
+  wide : (p < length P) × (p < length S) × (p < length held)
+  wide = let a = C .positions in let d = C .sixteen in let c = L .3 in let e = processes t b L in (omega arith, omega arith, omega arith)
+
+  -- where the test holds for some record, the position is lowered
+  found : any o (records x) ≡ true → {r : ℕ} → r ≡ length (before o (records x)) → (ltb r x ≡ true) × (lastSaved (records r) ≡ lowered o h x)
+  found y {r} e =
+      let a = before-less o (records x) y in
+      let l = records-length (word t) (at + 3) x in
+      let g : records r ≡ before o (records x) = ap records e ∙ sym (records-older (word t) (at + 3) x (before-older o (records x))) in
+      let z : lowered o h x ≡ lastSaved (before o (records x)) = rw (seen .here, y) in
+      (lt-ltb r x (omega arith), ap lastSaved g ∙ sym z)
+
+  missed : any o (records x) ≡ false → {r : ℕ} → r ≡ length (before o (records x)) → ltb r x ≡ false
+  missed y {r} e =
+      let l = records-length (word t) (at + 3) x in
+      let g = ap length (before-all o (records x) y) in
+      le-ltb r x (omega arith)
+
+  -- the step that takes p back to v
+  back : (v : ℕ) → v ≡ lowered o h x → any o (records x) ≡ true → Step held P S (set P p v) (set S p (sends (records v))) n p o true
+  back v e y =
+      let le : v ≤ x = subst (λ (z : ℕ). z ≤ x) (sym e) (lowered-le o h x) in
+      let d : records v ≡ upto v h =
+      sym (ap (upto v) (seen .all) ∙ records-upto (word t) (at + 3) v (word t at) (le-trans le (seen .least)))
+      in
+      record {
+        counted = set-counted held P p (wide .0) v S C le (ap sends d) (wide .1) (wide .2);
+        lowers = subst (λ (z : ℕ). Lowered held P (set P p z)) (sym e) (lower-fair held P p (wide .0) o fair);
+        none = rw (part-same held P p (wide .0) v, e) (lowered-none o h x);
+        others = part-other held P p (wide .0) v;
+        falls = let f = set-total held P p (wide .0) v n lt in let g = less in omega arith;
+        stays = λ z. clash true refl z;
+      }
+    where
+      less : v < x
+      less = subst (λ (z : ℕ). z < x) (sym e) (lowered-less o h x (ap (any o) (seen .here) ∙ y))
+
+  rest : any o (records x) ≡ false → Step held P S P S n p o false
+  rest y =
+      record {
+        counted = C;
+        lowers = lowered-refl held P;
+        none = ap (any o) (seen .here) ∙ y;
+        others = λ q ne. refl;
+        falls = omega arith;
+        stays = λ z. (refl, refl);
+      }
+
+  pub step : {r : ℕ} → r ≡ length (before o (records x)) → {P′ S′ : List ℕ} → P′ ≡ cond (ltb r x) (set P p (lastSaved (records r))) P
+      → S′ ≡ cond (ltb r x) (set S p (sends (records (lastSaved (records r))))) S → Step held P S P′ S′ n p o (ltb r x)
+  step {r} e {P′} {S′} a d = go (test (any o (records x)))
+    where
+      go : Test (any o (records x)) → Step held P S P′ S′ n p o (ltb r x)
+      go (passes y) = let f = found y e in rw (a, d, f .0) (back (lastSaved (records r)) (f .1) y)
+      go (fails y) = rw (a, d, missed y e) (rest y)
+
+-- ---- what the functions give
+
+-- a process that stays where it is
+pub back-none : (P Q S R : List ℕ) (m : Bool) {r x : ℕ} → x ≤ r → (P ≡ cond (ltb r x) Q P) × (S ≡ cond (ltb r x) R S) × (m ≡ (m || ltb r x))
+back-none P Q S R m {r} {x} le = rw (le-ltb r x le) (refl, refl, or-none m)
+  where
+    or-none : (a : Bool) → a ≡ (a || false)
+    or-none true = refl
+    or-none false = refl
+
+-- a process that is taken back to v, before which there are k sends
+pub back-some : (P S : List ℕ) (p : ℕ) (m : Bool) (f : ℕ → ℕ) {r x v u k : ℕ} → r < x → u ≡ v → k ≡ f u
+    → (set P p u ≡ cond (ltb r x) (set P p v) P) × (set S p k ≡ cond (ltb r x) (set S p (f v)) S) × (true ≡ (m || ltb r x))
+back-some P S p m f {r} {x} l e g = rw (lt-ltb r x l) (ap (set P p) e, ap (set S p) (g ∙ ap f e), or-some m)
+  where
+    or-some : (a : Bool) → true ≡ (a || true)
+    or-some true = refl
+    or-some false = refl
+
+-- ---- the start
+
+-- the processes below p are at their latest permitted positions
+abbrev pub Started : ℕ → State → List ℕ → List ℕ → ℕ → Type 0
+Started mask s P S p = (q : ℕ) → q < p → (getD P q 0 ≡ top (failed mask q) (history s q)) × (getD S q 0 ≡ sends (upto (getD P q 0) (history s q)))
+
+pub started-next : (mask : ℕ) (s : State) (P S : List ℕ) (p : ℕ) → Started mask s P S p → p < length P → p < length S → {x k : ℕ} {down : Bool} → down ≡ failed mask p
+    → (x ≡ top down (history s p)) × (k ≡ sends (upto x (history s p))) → Started mask s (set P p x) (set S p k) (p + 1)
+started-next mask s P S p f lp ls {x} {k} d g q lt = go (decEq q p)
+  where
+    h : History
+    h = history s q
+
+    go : Dec (q ≡ p) → (getD (set P p x) q 0 ≡ top (failed mask q) h) × (getD (set S p k) q 0 ≡ sends (upto (getD (set P p x) q 0) h))
+    go (yes e) =
+        rw (e, getD-set-same P p x 0 lp, getD-set-same S p k 0 ls) (g .0 ∙ ap (λ (b : Bool). top b (history s p)) d, g .1)
+    go (no ne) = rw (getD-set-other P p q x 0 ne, getD-set-other S p q k 0 ne) (f q (omega arith))
+
+pub started-done : (mask : ℕ) (s : State) (P S : List ℕ) → length P ≡ 16 → length S ≡ 16 → Started mask s P S (length s) → Counted s P S × Over mask s P
+started-done mask s P S lp ls f = (
+  record {
+    positions = lp;
+    sixteen = ls;
+    within = λ p lt. rw (f p lt .0) (top-le (failed mask p) (history s p));
+    counted = λ p lt. f p lt .1;
+  },
+  record {
+    permit = λ p lt. rw (f p lt .0) (top-permitted (failed mask p) (history s p));
+    latest = λ other A clean p lt. rw (f p lt .0) (top-latest (failed mask p) (history s p) (getD other p 0) (A .each p lt));
+  },
+)
+
+-- ---- sweeps
+
+-- what a sweep has found, at process p
+abbrev pub Swept : State → List ℕ → List ℕ → List ℕ → Bool → ℕ → ℕ → Type 0
+Swept s P₀ P S m n p =
+    Counted s P S × Lowered s P₀ P × (total P n + cond m 1 0 ≤ total P₀ n) × ((m ≡ false) → NoneLate s P S p)
+
+pub swept-next : (s : State) (P₀ P S P′ S′ : List ℕ) (m m′ : Bool) (n p : ℕ) {moves : Bool} → Swept s P₀ P S m n p
+    → Step s P S P′ S′ n p (late S) moves → m′ ≡ (m || moves) → Swept s P₀ P′ S′ m′ n (p + 1)
+swept-next s P₀ P S P′ S′ m m′ n p {moves} (C, l, f, none) u e = (
+  u .counted,
+  lowered-trans s P₀ P P′ l (u .lowers),
+  rw e (falls m moves f (u .falls)),
+  λ z q lt. settled (rw e at z) q lt (decEq q p),
+)
+  where
+    falls : (a b : Bool) → total P n + cond a 1 0 ≤ total P₀ n → total P′ n + cond b 1 0 ≤ total P n → total P′ n + cond (a || b) 1 0 ≤ total P₀ n
+    falls true true x y = omega arith
+    falls true false x y = omega arith
+    falls false true x y = omega arith
+    falls false false x y = omega arith
+
+    settled : (m || moves) ≡ false → (q : ℕ) → q < p + 1 → Dec (q ≡ p) → any (late S′) (part s P′ q) ≡ false
+    settled z q lt d = rw (← u .stays (or-false m moves z .1) .1) (at d)
+      where
+        at : Dec (q ≡ p) → any (late S) (part s P′ q) ≡ false
+        at (yes i) = rw i (u .none)
+        at (no ne) = ap (any (late S)) (u .others q ne) ∙ none (or-false m moves z .0) q (omega arith)
+
+-- ---- pruning
+
+abbrev pub Pruned : State → List ℕ → List ℕ → List ℕ → ℕ → Type 0
+Pruned s P₀ P S p = Counted s P S × Lowered s P₀ P × NoneLost s P p
+
+pub pruned-next : (s : State) (P₀ P S P′ S′ : List ℕ) (n p : ℕ) {moves : Bool} → Pruned s P₀ P S p → Step s P S P′ S′ n p (lost s p) moves
+    → Pruned s P₀ P′ S′ (p + 1)
+pruned-next s P₀ P S P′ S′ n p (C, l, none) u =
+    (u .counted, lowered-trans s P₀ P P′ l (u .lowers), λ q lt. at q lt (decEq q p))
+  where
+    at : (q : ℕ) → q < p + 1 → Dec (q ≡ p) → any (lost s q) (part s P′ q) ≡ false
+    at q lt (yes i) = rw i (u .none)
+    at q lt (no ne) = ap (any (lost s q)) (u .others q ne) ∙ none q (omega arith)

@@ -1,0 +1,46 @@
+use borrow.Author.Needs.{needs}
+use Rattle.lowering.proofs.pruned.Statement.{statement}
+use Rattle.lowering.proofs.pruned.Tie as tie
+use Rattle.lowering.proofs.pruned.Reads as reads
+use Rattle.lowering.proofs.pruned.Lts as lts
+use Rattle.lowering.proofs.pruned_by.Reads as pruned-by-reads
+
+-- src/lib.rt:140:8
+mul-if1 : tie.Need-mul-if1
+mul-if1 c = ?
+
+-- src/lib.rt:142:40
+slice-aggregate-pruned-by : tie.Need-slice-aggregate-pruned-by
+slice-aggregate-pruned-by c = search needs
+
+-- src/lib.rt:142:9
+pruned-by-requires : tie.Need-pruned-by-requires
+pruned-by-requires c κs = ?
+
+-- src/lib.rt:142:9
+returns : tie.Need-returns
+returns c = search needs
+
+-- src/lib.rt:145:29
+slice-aggregate-pruned-by-2 : tie.Need-slice-aggregate-pruned-by-2
+slice-aggregate-pruned-by-2 c = search needs
+
+-- src/lib.rt:145:5
+pruned-by-requires-2 : tie.Need-pruned-by-requires-2
+pruned-by-requires-2 c κs = ?
+
+-- src/lib.rt:136:1
+returns-2 : tie.Need-returns-2
+returns-2 c = search needs
+
+pub pruned-spec : {M : Type 1} → statement M
+pruned-spec =
+    tie.close
+    (tie.spec
+    mul-if1
+    slice-aggregate-pruned-by
+    pruned-by-requires
+    returns
+    slice-aggregate-pruned-by-2
+    pruned-by-requires-2
+    returns-2)

@@ -1,0 +1,65 @@
+-- What holds of a cut while it is lowered to the failure line.
+use mathlib.Core.Path.{_≡_}
+use mathlib.Core.Bool.{Bool, true, false, not, cond}
+use mathlib.Core.List.{List}
+use Prim.Native.Nat.{ℕ, zero, suc, _+_, _*_, _≤_, _<_}
+use lib.Dec.{leb}
+use lib.ListN.{length, getD}
+use Rattle.xdr.specs.Words.{word}
+use Rattle.rules.specs.Records.{Event, basic, forced, sent, received, History, State, history, sends, destination, hasSend}
+use Rattle.rules.specs.Lines.{part, NoOrphan, failed, permitted, Permitted, any}
+use Rattle.rules.specs.Calls.{first, tableRows}
+use Rattle.cuts.specs.Tests.{late}
+
+-- the table t meets none of its own rows, and has these dimensions, which then are within their ranges
+abbrev pub Laid : List ℕ → ℕ → ℕ → Type 0
+Laid t n E = (first (tableRows t) ≡ 0) × (n ≡ word t 0) × (E ≡ word t 1) × (n ≤ 16) × (E ≤ 1024)
+
+-- sixteen positions, those of the processes within their records, with the count of sends before each
+pub record Counted (s : State) (position counts : List ℕ) : Type 0 where
+  pub positions : length position ≡ 16
+  pub sixteen : length counts ≡ 16
+  pub within : (p : ℕ) → p < length s → getD position p 0 ≤ length (history s p)
+  pub counted : (p : ℕ) → p < length s → getD counts p 0 ≡ sends (part s position p)
+
+-- the positions are permitted, and no permitted cut without orphans is later at any process
+pub record Over (mask : ℕ) (s : State) (position : List ℕ) : Type 0 where
+  pub permit : (p : ℕ) → p < length s → permitted (failed mask p) (history s p) (getD position p 0) ≡ true
+  pub latest : (other : List ℕ) → Permitted mask s other → NoOrphan s other → (p : ℕ) → p < length s → getD other p 0 ≤ getD position p 0
+
+-- lowered from one cut to another, and not past the failure line, whichever processes failed
+pub record Lowered (s : State) (from to : List ℕ) : Type 0 where
+  pub down : (p : ℕ) → p < length s → getD to p 0 ≤ getD from p 0
+  pub over : (mask : ℕ) → Over mask s from → Over mask s to
+
+-- a receipt of process p that is an orphan in every cut: its send is not there, or goes to another process
+abbrev pub lost : State → ℕ → Event → Bool
+lost s p (basic m) = false
+lost s p (forced m) = false
+lost s p (sent q) = false
+lost s p (received q k) = not (hasSend (history s q) p k)
+
+-- none of the first p processes has such a receipt in the cut
+abbrev pub NoneLost : State → List ℕ → ℕ → Type 0
+NoneLost s position p = (q : ℕ) → q < p → any (lost s q) (part s position q) ≡ false
+
+-- none of the first p processes has a receipt in the cut whose send number is above the sender's count
+abbrev pub NoneLate : State → List ℕ → List ℕ → ℕ → Type 0
+NoneLate s position counts p = (q : ℕ) → q < p → any (late counts) (part s position q) ≡ false
+
+-- the sum of the first p positions
+abbrev pub total : List ℕ → ℕ → ℕ
+total position zero = 0
+total position (suc p) = total position p + getD position p 0
+
+-- where send k goes, 16 if it is not there
+abbrev pub goes : History → ℕ → ℕ
+goes h k = cond (leb k (sends h)) (destination h k) 16
+
+-- a list has this for each send of the first p processes, at its place
+abbrev pub Noted : State → ℕ → List ℕ → ℕ → Type 0
+Noted s E to p = (q k : ℕ) → q < p → 0 < k → k ≤ E → getD to (q * E + k) 0 ≡ goes (history s q) k
+
+-- no place above `from` has anything but 16
+abbrev pub Blank : List ℕ → ℕ → Type 0
+Blank to from = (i : ℕ) → from < i → i < length to → getD to i 0 ≡ 16
