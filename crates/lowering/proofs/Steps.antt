@@ -8,7 +8,7 @@ use native.Mathlib.Nat.{le-refl, le-trans}
 use native.Mathlib.Omega.{arith}
 use native.Mathlib.Decide.{decLt}
 use lib.Dec.{ltb, leb}
-use lib.ListN.{length, getD, set}
+use lib.ListN.{length, getD, set, replicate, length-replicate, getD-replicate}
 use lib.Seq.{getD-set-same, getD-set-other}
 use borrow.Author.Tests.{ltb-true, lt-ltb, le-ltb, le-leb, lt-leb}
 use Rattle.xdr.specs.Words.{word}
@@ -27,7 +27,7 @@ use Rattle.theorems.proofs.OneCall.{Whole, whole, table-legal}
 use Rattle.theorems.proofs.Outcomes.{Head, head}
 use Rattle.theorems.proofs.Cuts.{last-le, top-le, top-permitted, top-latest, before-older, before-less, before-all, lowered-le, lowered-none, lowered-less, clash}
 use Rattle.cuts.specs.Tests.{late}
-use Rattle.lowering.specs.Lowering.{Laid, Counted, Over, Lowered, lost, NoneLost, NoneLate, total}
+use Rattle.lowering.specs.Lowering.{Laid, Counted, Over, Lowered, lost, NoneLost, NoneLate, total, Blank}
 use Rattle.lowering.proofs.Cuts.{decEq, lowered-refl, lowered-trans, part-same, part-other, set-counted, set-total, Fair, lower-fair}
 
 -- ---- older parts of the records from word `at` on
@@ -286,7 +286,16 @@ swept-next s P₀ P S P′ S′ m m′ n p {moves} (C, l, f, none) u e = (
         at (yes i) = rw i (u .none)
         at (no ne) = ap (any (late S)) (u .others q ne) ∙ none (or-false m moves z .0) q (omega arith)
 
+-- a sweep leaves less to do
+pub sweep-less : (m m′ : Bool) (x : ℕ) {y : ℕ} → m ≡ true → x + cond m′ 1 0 ≤ y → cond m′ (x + 1) 0 < cond m (y + 1) 0
+sweep-less m true x e l = rw e (omega arith)
+sweep-less m false x e l = rw e (omega arith)
+
 -- ---- pruning
+
+-- a list of 16 in every place
+pub blank : (m : ℕ) → Blank (replicate m 16) 0
+blank m i lt le = getD-replicate m i 16 0 (subst (λ (x : ℕ). i < x) (length-replicate {A = ℕ} m 16) le)
 
 abbrev pub Pruned : State → List ℕ → List ℕ → List ℕ → ℕ → Type 0
 Pruned s P₀ P S p = Counted s P S × Lowered s P₀ P × NoneLost s P p

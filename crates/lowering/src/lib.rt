@@ -171,7 +171,8 @@ pub fn settled(t: &[u8], n: usize, e: usize, cut: Cut) -> Cut
     requires { ⌜ Laid (now t) n e × Counted (decoded (now t)) (cut .position) (cut .sends) ⌝ }
     ensures { λ r. ⌜ Counted (decoded (now (t .entry))) (r .position) (r .sends) × Lowered (decoded (now (t .entry))) (cut .position) (r .position) × NoneLate (decoded (now (t .entry))) (r .position) (r .sends) n ⌝ }
 {
-    let mut c = sweep(t, n, e, cut);
+    let mut c = cut;
+    c.moved = true;
     while c.moved {
         c = sweep(t, n, e, c);
     }

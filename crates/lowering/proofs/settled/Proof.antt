@@ -1,3 +1,12 @@
+use native.Mathlib.Omega.{arith}
+use mathlib.Core.Path.{_≡_, refl}
+use mathlib.Core.Bool.{true, false, cond}
+use Prim.Native.Nat.{ℕ, _+_}
+use Rattle.rules.specs.Table.{decoded}
+use Rattle.theorems.proofs.Cuts.{clash}
+use Rattle.lowering.specs.Lowering.{Counted, Lowered, NoneLate, total}
+use Rattle.lowering.proofs.Cuts.{lowered-refl, lowered-trans}
+use Rattle.lowering.proofs.Steps.{sweep-less}
 use Rattle.lowering.proofs.settled.Statement.{statement}
 use Rattle.lowering.proofs.settled.Tie as tie
 use Rattle.lowering.proofs.settled.Reads as reads
@@ -5,44 +14,31 @@ use Rattle.lowering.proofs.settled.Lts as lts
 use Rattle.lowering.proofs.sweep.Reads as sweep-reads
 
 abbrev Inv-loop : tie.InvT-loop
-Inv-loop t n e c₀ c = ?
+Inv-loop t n e c₀ c = Counted (decoded t) (c .position) (c .sends) × Lowered (decoded t) (c₀ .position) (c .position) × ((c .moved ≡ false) → NoneLate (decoded t) (c .position) (c .sends) n)
 
 abbrev μ-loop : tie.MeasureT-loop
-μ-loop t n e c₀ c = ?
+μ-loop t n e c₀ c = cond (c .moved) (total (c .position) n + 1) 0
 
--- src/lib.rt:174:9
-sweep-requires : tie.Need-sweep-requires Inv-loop μ-loop
-sweep-requires c κs = ?
-
--- src/lib.rt:175:5
+-- src/lib.rt:176:5
 loop-holds : tie.Need-loop-holds Inv-loop μ-loop
-loop-holds c = ?
+loop-holds c = let k = c .before in (k .pre .1, lowered-refl (decoded (k .args .t .now)) (k .args .cut .position), λ z. clash true refl z)
 
--- src/lib.rt:176:9
-sweep-requires-2 : tie.Need-sweep-requires-2 Inv-loop μ-loop
-sweep-requires-2 c κs = ?
+-- src/lib.rt:177:9
+sweep-requires : tie.Need-sweep-requires Inv-loop μ-loop
+sweep-requires c κs = (c .before .before .before .pre .0, c .before .loop .inv .0)
 
--- src/lib.rt:175:5
+-- src/lib.rt:176:5
 loop-less : tie.Need-loop-less Inv-loop μ-loop
-loop-less c = ?
+loop-less c = sweep-less (c .before .before .loop .c .moved) (c .sweep .result .moved) (total (c .sweep .result .position) (c .before .before .before .before .args .n)) (c .before .loop-test .taken) (c .sweep .ensures .2)
 
--- src/lib.rt:175:5
+-- src/lib.rt:176:5
 loop-again : tie.Need-loop-again Inv-loop μ-loop
-loop-again c = ?
+loop-again c = let a = c .before .before .before .before .args in let s = c .before .before .loop in (c .sweep .ensures .0, lowered-trans (decoded (a .t .now)) (a .cut .position) (s .c .position) (c .sweep .result .position) (s .inv .1) (c .sweep .ensures .1), c .sweep .ensures .3)
 
 -- src/lib.rt:170:1
 returns : tie.Need-returns Inv-loop μ-loop
-returns c = ?
+returns c = let s = c .before .loop in (s .inv .0, s .inv .1, s .inv .2 (c .loop-test .left))
 
 pub settled-spec : {M : Type 1} → statement M
 settled-spec =
-    tie.close
-    (tie.spec
-    Inv-loop
-    μ-loop
-    sweep-requires
-    loop-holds
-    sweep-requires-2
-    loop-less
-    loop-again
-    returns)
+    tie.close (tie.spec Inv-loop μ-loop loop-holds sweep-requires loop-less loop-again returns)
