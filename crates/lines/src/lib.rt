@@ -1,12 +1,12 @@
 // The numbered line (document 01, "Lines").
 ghost use mathlib.Core.Path.{_≡_};
+ghost use mathlib.Core.List.{_++_};
 ghost use Prim.Native.Nat.{ℕ, _+_, _*_, _≤_, _<_};
 ghost use lib.ListN.{length};
-ghost use Rattle.xdr.specs.Words.{word, putWords};
+ghost use Rattle.xdr.specs.Words.{word, putEach};
 ghost use Rattle.rules.specs.Table.{start, sectionAt};
 ghost use Rattle.rules.specs.Lines.{numbered};
-ghost use Rattle.rules.specs.Calls.{outcome, first, lineOn};
-ghost use Rattle.lines.specs.Positions.{lineRows, positions};
+ghost use Rattle.rules.specs.Calls.{outcome, first, tableRows, lineRows, lineOn};
 
 // The position of process p.
 fn position_of(t: &[u8], e: usize, p: usize, m: usize) -> u32
@@ -20,7 +20,7 @@ fn position_of(t: &[u8], e: usize, p: usize, m: usize) -> u32
 // Writes the positions of all n processes.
 fn fill(t: &[u8], area: &mut [u8], n: usize, e: usize, m: usize)
     requires { ⌜ (n ≤ 16) × (e ≤ 1024) × (4 * start e n ≤ length (now t)) × (length (now area) ≡ 4 * n) × ((p : ℕ) → p < n → word (now t) (start e p) ≤ e) ⌝ }
-    ensures { λ _. ⌜ now (area .exit) ≡ putWords (now (area .entry)) 0 (positions (word (now (t .entry))) e m n) ⌝ }
+    ensures { λ _. ⌜ now (area .exit) ≡ putEach (now (area .entry)) (λ p. numbered m (sectionAt (word (now (t .entry))) e p)) n ⌝ }
 {
     let mut p: usize = 0;
     while p < n {
@@ -30,7 +30,7 @@ fn fill(t: &[u8], area: &mut [u8], n: usize, e: usize, m: usize)
 }
 
 fn line_row(t: &[u8], len: usize) -> u32
-    ensures { λ r. ⌜ r ≡ first (lineRows (now (t .entry)) len) ⌝ }
+    ensures { λ r. ⌜ r ≡ first (tableRows (now (t .entry)) ++ lineRows (word (now (t .entry)) 0) len) ⌝ }
 {
     let row = layout::table_row(t);
     if row != 0 {

@@ -87,6 +87,13 @@ laterRows n E s p call =
 abbrev pub stepRows : ℕ → ℕ → State → ℕ → Call → ℕ → List Row
 stepRows n E s p call len = row 4 (not (eqb len (areaLength call))) ∷ row 5 (leb n p) ∷ laterRows n E s p call
 
+-- the rows of a numbered line and of a failure line from the answer area on
+abbrev pub lineRows : ℕ → ℕ → List Row
+lineRows n len = row 4 (not (eqb len (4 * n))) ∷ []
+
+abbrev pub failureRows : ℕ → ℕ → ℕ → List Row
+failureRows n mask len = row 4 (not (eqb len (4 * n + 8))) ∷ row 11 (leb (2 ^ n) mask) ∷ []
+
 -- ---- outcomes
 
 -- what a call leaves: the number returned, the table and the area
@@ -117,10 +124,8 @@ stepOn t a p call =
 
 -- numbered line N
 unfoldable pub lineOn : List ℕ → List ℕ → ℕ → Outcome
-lineOn t a N = judged (first (tableRows t ++ row 4 (not (eqb (length a) (4 * word t 0))) ∷ [])) t a t (numberedLine N (decoded t))
+lineOn t a N = judged (first (tableRows t ++ lineRows (word t 0) (length a))) t a t (numberedLine N (decoded t))
 
 -- failure line
 unfoldable pub failedOn : List ℕ → List ℕ → ℕ → Outcome
-failedOn t a mask =
-    judged (first (tableRows t ++ row 4 (not (eqb (length a) (4 * word t 0 + 8))) ∷ row 11 (leb (2 ^ word t 0) mask) ∷ [])) t a t
-    (failureAnswer mask (decoded t))
+failedOn t a mask = judged (first (tableRows t ++ failureRows (word t 0) mask (length a))) t a t (failureAnswer mask (decoded t))

@@ -143,6 +143,11 @@ failureLine mask s = rounds (sum (map length s)) s (eachFrom 0 (λ p h. top (fai
 abbrev pub goesBack : History → ℕ → Bool
 goesBack h t = ltb t (length h)
 
+-- the mask of those of the first p processes that go back
+abbrev pub backBelow : State → List ℕ → ℕ → ℕ
+backBelow s cut zero = 0
+backBelow s cut (suc p) = backBelow s cut p + cond (goesBack (history s p) (getD cut p 0)) (2 ^ p) 0
+
 -- the mask of the processes that go back
 abbrev pub backMask : State → List ℕ → ℕ
-backMask s cut = sum (eachFrom 0 (λ p h. cond (goesBack h (getD cut p 0)) (2 ^ p) 0) s)
+backMask s cut = backBelow s cut (length s)

@@ -12,6 +12,8 @@ pub mod OneCall
 pub mod Demand3
 pub mod Cuts
 pub mod Failure
+pub mod Masks
+pub mod Demand2
 pub mod Scans
 pub mod Outcomes
 pub mod Fresh

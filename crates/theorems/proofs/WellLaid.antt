@@ -206,6 +206,11 @@ from-length : (w : ℕ → ℕ) (E p m : ℕ) → length (sectionsFrom w E p m) 
 from-length w E p zero = refl
 from-length w E p (suc m) = ap suc (from-length w E (suc p) m)
 
+-- of any table
+pub decoded-count : (t : List ℕ) → length (decoded t) ≡ word t 0
+unfolding decoded
+decoded-count t = from-length (word t) (word t 1) 0 (word t 0)
+
 from-at : (w : ℕ → ℕ) (E p m r : ℕ) → r < m → history (sectionsFrom w E p m) r ≡ sectionAt w E (p + r)
 from-at w E p zero r lt = absurd (not-suc-le-zero lt)
 from-at w E p (suc m) zero lt = ap (sectionAt w E) (let e : p ≡ p + 0 = omega arith in e)

@@ -1,1 +1,2 @@
 pub mod TwoLists
+pub mod Latest

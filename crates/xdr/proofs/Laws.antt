@@ -1,14 +1,15 @@
 -- Words and bytes: a word that was put is read back, every other word stays, and bytes are those of their words.
-use mathlib.Core.Path.{_≡_, refl, sym, ap, _∙_}
+use mathlib.Core.Path.{_≡_, refl, sym, ap, _∙_, subst}
 use mathlib.Core.Logic.{_≢_, _⊎_, inl, inr}
 use mathlib.Core.List.{List, [], _∷_, _++_}
 use Prim.Native.Nat.{ℕ, zero, suc, _+_, _*_, _/_, _%_, _≤_, _<_}
 use native.Mathlib.Nat.{zero-add, add-zero, not-suc-le-zero, le-of-suc-le-suc, div-div-eq-div-mul, div-add-mod', mod-eq-of-lt}
+use native.Mathlib.Numerals.{add-one}
 use native.Mathlib.Omega.{arith}
 use native.Mathlib.Decide.{decLt}
 use lib.ListN.{length, getD, set, length-set}
 use lib.Seq.{getD-set-same, getD-set-other}
-use Rattle.xdr.specs.Words.{word, bytes, words, putWord, putWords}
+use Rattle.xdr.specs.Words.{word, bytes, words, putWord, putWords, putEach}
 
 -- ---- words as bytes
 
@@ -220,8 +221,45 @@ all-put t ws b s l =
     bytes-of ws (putWords t 0 ws) (all-length t 0 ws ∙ l) (all-bytes t 0 ws b)
     (λ i lt. ap (word (putWords t 0 ws)) (sym (zero-add i)) ∙ all-at t 0 ws s (omega arith) i lt)
 
--- words put one part after the other
-pub put-append : (t : List ℕ) (i : ℕ) (vs us : List ℕ) {j : ℕ} → j ≡ i + length vs → putWords (putWords t i vs) j us ≡ putWords t i (vs ++ us)
-unfolding putWords
-put-append t i [] us e = let z : _ ≡ i = e ∙ add-zero i in rw z
-put-append t i (v ∷ vs) us e = put-append (putWord t i v) (suc i) vs us (e ∙ (omega arith))
+-- ---- a word for each number
+
+pub each-length : (t : List ℕ) (f : ℕ → ℕ) (p : ℕ) → length (putEach t f p) ≡ length t
+unfolding putEach
+each-length t f zero = refl
+each-length t f (suc p) = put-length (putEach t f p) p (f p) ∙ each-length t f p
+
+-- one word more
+pub each-next : (t : List ℕ) (f : ℕ → ℕ) (p : ℕ) {u v : List ℕ} {x : ℕ} → u ≡ putEach t f p → v ≡ putWord u p x → x ≡ f p → v ≡ putEach t f (p + 1)
+unfolding putEach
+each-next t f p a b c = rw (b, a, c, add-one p)
+
+each-bytes : (t : List ℕ) (f : ℕ → ℕ) (p : ℕ) → Bytes t → Bytes (putEach t f p)
+unfolding putEach
+each-bytes t f zero b = b
+each-bytes t f (suc p) b = put-bytes (putEach t f p) p (f p) (each-bytes t f p b)
+
+each-at : (t : List ℕ) (f : ℕ → ℕ) (p : ℕ) → 4 * p ≤ length t → (i : ℕ) → i < p → f i < 4294967296 → word (putEach t f p) i ≡ f i
+unfolding putEach
+each-at t f zero le i lt s = absurd (not-suc-le-zero lt)
+each-at t f (suc p) le i lt s = go (decLt i p) (each-at t f p (omega arith) i)
+  where
+    go : Dec (i < p) → (i < p → f i < 4294967296 → word (putEach t f p) i ≡ f i) → word (putWord (putEach t f p) p (f p)) i ≡ f i
+    go (yes l) r = word-other (putEach t f p) p (f p) i (λ e. absurd (omega arith)) ∙ r l s
+    go (no l) r =
+        let e : i ≡ p = omega arith in
+        let m = each-length t f p in
+        rw e (word-same (putEach t f p) p (f p) (omega arith) (subst (λ (j : ℕ). f j < 4294967296) e s))
+
+small-at : (ws : List ℕ) → Small ws → (i : ℕ) → i < length ws → getD ws i 0 < 4294967296
+small-at [] s i lt = absurd (not-suc-le-zero lt)
+small-at (w ∷ ws) s zero lt = s .0
+small-at (w ∷ ws) s (suc i) lt = small-at ws (s .1) i (le-of-suc-le-suc lt)
+
+-- a word for each of ws over the whole of some bytes leaves their bytes
+pub each-put : (t ws : List ℕ) (f : ℕ → ℕ) (p : ℕ) → Bytes t → Small ws → p ≡ length ws → length t ≡ 4 * p
+    → ((i : ℕ) → i < p → f i ≡ getD ws i 0) → putEach t f p ≡ bytes ws
+each-put t ws f p b s n l e =
+    bytes-of ws (putEach t f p) (each-length t f p ∙ l ∙ ap (λ (k : ℕ). 4 * k) n) (each-bytes t f p b)
+    (λ i lt.
+    let m : i < p = omega arith in
+    each-at t f p (omega arith) i m (subst (λ (v : ℕ). v < 4294967296) (sym (e i m)) (small-at ws s i lt)) ∙ e i m)

@@ -1,7 +1,7 @@
 -- XDR unsigned integers (RFC 4506) in a list of bytes; document 01 calls them words. Word i stands in bytes 4 * i to
 -- 4 * i + 3, most significant first.
 use mathlib.Core.List.{List, [], _∷_}
-use Prim.Native.Nat.{ℕ, suc, _+_, _*_, _/_, _%_}
+use Prim.Native.Nat.{ℕ, zero, suc, _+_, _*_, _/_, _%_}
 use lib.ListN.{getD, set}
 
 -- word i of the bytes
@@ -30,3 +30,8 @@ putWord s i v =
 unfoldable pub putWords : List ℕ → ℕ → List ℕ → List ℕ
 putWords s i [] = s
 putWords s i (v ∷ vs) = putWords (putWord s i v) (suc i) vs
+
+-- the bytes with f i as word i for each i below p
+unfoldable pub putEach : List ℕ → (ℕ → ℕ) → ℕ → List ℕ
+putEach s f zero = s
+putEach s f (suc p) = putWord (putEach s f p) p (f p)

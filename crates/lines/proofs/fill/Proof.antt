@@ -5,20 +5,21 @@ use native.Mathlib.Omega.{arith}
 use lib.ListN.{length}
 use borrow.Author.Needs.{needs}
 use Rattle.xdr.proofs.Laws.{put-length}
-use Rattle.xdr.specs.Words.{word, putWords}
-use Rattle.lines.proofs.Laws.{line-next}
-use Rattle.lines.specs.Positions.{positions}
+use Rattle.xdr.specs.Words.{word, putEach}
+use Rattle.xdr.proofs.Laws.{each-next}
+use Rattle.rules.specs.Table.{sectionAt}
+use Rattle.rules.specs.Lines.{numbered}
 use Rattle.lines.proofs.fill.Statement.{statement}
 use Rattle.lines.proofs.fill.Tie as tie
 
 abbrev Inv-loop : tie.InvT-loop
-Inv-loop t area₀ n e m p₀ area p = (area ≡ putWords area₀ 0 (positions (word t) e m p)) × (p ≤ n) × (length area ≡ length area₀)
+Inv-loop t area₀ n e m p₀ area p = (area ≡ putEach area₀ (λ q. numbered m (sectionAt (word t) e q)) p) × (p ≤ n) × (length area ≡ length area₀)
 
 abbrev μ-loop : tie.MeasureT-loop
 μ-loop t area₀ n e m p₀ area p = n - p
 
 loop-holds : tie.Need-loop-holds Inv-loop μ-loop
-unfolding putWords
+unfolding putEach
 loop-holds c = (refl, search needs, search needs)
 
 position-of-requires : tie.Need-position-of-requires Inv-loop μ-loop
@@ -45,7 +46,7 @@ loop-again c =
     let c9 = c6 .before .before .before in
     let a = c9 .args in
     let s = c6 .loop in (
-      line-next (a .area .now) (word (a .t .now)) (a .e) (a .m) (s .p) (s .inv .0) (c .before .before .put .ensures)
+      each-next (a .area .now) (λ q. numbered (a .m) (sectionAt (word (a .t .now)) (a .e) q)) (s .p) (s .inv .0) (c .before .before .put .ensures)
           (c3 .position-of .ensures),
       search needs,
       ap length (c .before .before .put .ensures) ∙ put-length (s .area) (s .p)
