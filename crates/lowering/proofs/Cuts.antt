@@ -12,10 +12,11 @@ use lib.ListN.{length, getD, set, length-set, List·getD-eq-default}
 use lib.Seq.{getD-set-same, getD-set-other}
 use borrow.Author.Tests.{ltb-false, le-ltb, eqb-true, eqb-false, not-false}
 use Rattle.rules.specs.Records.{Event, basic, forced, sent, received, History, State, history, sends, hasSend}
-use Rattle.rules.specs.Lines.{upto, part, orphan, NoOrphan, failed, permitted, Permitted, any, lowered}
+use Rattle.rules.specs.Lines.{upto, part, orphan, NoOrphan, failed, permitted, Permitted, any, lowered, eachFrom, failureLine}
 use Rattle.theorems.proofs.Older.{Older}
 use Rattle.theorems.proofs.Histories.{Test, passes, fails, test, sends-older, destination-older, Held, holds-held, held-holds, holds-older}
 use Rattle.theorems.proofs.Cuts.{upto-is-older, upto-mono, any-older, any-none, none-any, lowered-le, lowered-none, lowered-permitted, lowered-keeps, permitted-le}
+use Rattle.theorems.proofs.Failure.{each-length, each-at, failure-line}
 use Rattle.cuts.specs.Tests.{late}
 use Rattle.lowering.specs.Lowering.{Counted, Over, Lowered, lost, NoneLost, NoneLate, total}
 
@@ -200,3 +201,36 @@ module _ (s : State) (P S : List ℕ) (C : Counted s P S) (few : length s ≤ 16
       at (no l) =
           let z : part s P p ≡ [] = ap (upto (getD P p 0)) (beyond s p (omega arith)) in
           absurd (List·Memᴰ·not-nil (rw z at m))
+
+-- ---- the cut that is left is the failure line
+
+pub over-line : (mask : ℕ) (s : State) (P : List ℕ) → Over mask s P → NoOrphan s P → (p : ℕ) → p < length s → getD P p 0 ≡ getD (failureLine mask s) p 0
+over-line mask s P O clean p lt =
+    let F = failure-line mask s in
+    let a = O .latest (failureLine mask s) (F .permit) (F .clean) p lt in
+    let b = F .latest cut permit (λ q e m. sym (orphan-same q e) ∙ clean q e (subst (List·Memᴰ e) (sym (part-cut q)) m)) p lt in
+    let c = cut-at p lt in
+    omega arith
+  where
+    -- as many positions as there are processes
+    cut : List ℕ
+    cut = eachFrom 0 (λ q h. getD P q 0) s
+
+    cut-at : (q : ℕ) → q < length s → getD cut q 0 ≡ getD P q 0
+    cut-at q lq = each-at (λ r h. getD P r 0) [] s q lq
+
+    permit : Permitted mask s cut
+    permit = record { size = each-length (λ q h. getD P q 0) s 0; each = λ q lq. rw (cut-at q lq) (O .permit q lq) }
+
+    part-cut : (q : ℕ) → part s P q ≡ part s cut q
+    part-cut q = go (decLt q (length s))
+      where
+        go : Dec (q < length s) → part s P q ≡ part s cut q
+        go (yes l) = ap (λ (x : ℕ). upto x (history s q)) (sym (cut-at q l))
+        go (no l) = rw (beyond s q (omega arith))
+
+    orphan-same : (q : ℕ) (e : Event) → orphan s P q e ≡ orphan s cut q e
+    orphan-same q (basic m) = refl
+    orphan-same q (forced m) = refl
+    orphan-same q (sent d) = refl
+    orphan-same q (received d k) = ap (λ (h : History). not (hasSend h q k)) (part-cut d)

@@ -20,7 +20,7 @@ use Rattle.theorems.proofs.Cuts.{upto-mono, any-none, none-any, lowered
 
 -- ---- lists of positions
 
-each-length : {A : Type 0} (f : ℕ → A → ℕ) (ts : List A) (i : ℕ) → length (eachFrom i f ts) ≡ length ts
+pub each-length : {A : Type 0} (f : ℕ → A → ℕ) (ts : List A) (i : ℕ) → length (eachFrom i f ts) ≡ length ts
 each-length f [] i = refl
 each-length f (t ∷ ts) i = ap suc (each-length f ts (suc i))
 
@@ -29,7 +29,7 @@ each-from f d [] i p lt = absurd (not-suc-le-zero lt)
 each-from f d (t ∷ ts) i zero lt = rw (add-zero i)
 each-from f d (t ∷ ts) i (suc p) lt = each-from f d ts (suc i) p (le-of-suc-le-suc lt) ∙ ap (λ (k : ℕ). f k (getD ts p d)) (suc-add i p ∙ sym (add-suc i p))
 
-each-at : {A : Type 0} (f : ℕ → A → ℕ) (d : A) (ts : List A) (p : ℕ) → p < length ts → getD (eachFrom 0 f ts) p 0 ≡ f p (getD ts p d)
+pub each-at : {A : Type 0} (f : ℕ → A → ℕ) (d : A) (ts : List A) (p : ℕ) → p < length ts → getD (eachFrom 0 f ts) p 0 ≡ f p (getD ts p d)
 each-at f d ts p lt = each-from f d ts 0 p lt ∙ ap (λ (k : ℕ). f k (getD ts p d)) (zero-add p)
 
 -- place by place at most

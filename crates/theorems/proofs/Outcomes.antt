@@ -12,13 +12,13 @@ use borrow.Author.Tests.{ltb-false, eqb-true, eq-eqb, ne-eqb, not-false}
 use Rattle.xdr.specs.Words.{word, bytes}
 use Rattle.xdr.proofs.Laws.{Bytes}
 use Rattle.rules.specs.Records.{History, history, number, sends, carried}
-use Rattle.rules.specs.Table.{sectionWords, start, recordsAt, decoded}
+use Rattle.rules.specs.Table.{inRange, sectionWords, start, recordsAt, decoded}
 use Rattle.rules.specs.Steps.{Call}
 use Rattle.rules.specs.Calls.{areaLength, outcome, Row, row, first, tableRows, laterRows, stepRows, judged}
 use Rattle.theorems.proofs.Steps.{Numbered, none-met, first-append, Accepted, accepted-met}
 use Rattle.theorems.proofs.Laid.{product, sends-length}
 use Rattle.theorems.proofs.WellLaid.{decoded-at, decoded-words, decoded-short}
-use Rattle.theorems.proofs.OneCall.{split-zero, Whole, whole, table-legal, legal-number, legal-carried}
+use Rattle.theorems.proofs.OneCall.{split-zero, in-range, Whole, whole, table-legal, legal-number, legal-carried}
 
 -- ---- outcomes
 
@@ -45,6 +45,10 @@ going rs qs w e z = first-append rs qs (none-met rs w (sym e ∙ z))
 
 pub long : (t : List ℕ) {r : ℕ} → r ≡ first (tableRows t) → r ≡ 0 → 8 ≤ length t
 long t e z = ltb-false (length t) 8 (none-met (tableRows t) tt (sym e ∙ z) .0)
+
+pub sixteen : (t : List ℕ) {r : ℕ} → r ≡ first (tableRows t) → r ≡ 0 → word t 0 ≤ 16
+sixteen t e z =
+    in-range (word t 0) (word t 1) (not-false (inRange (word t 0) (word t 1)) (none-met (tableRows t) tt (sym e ∙ z) .1 .0)) .processes
 
 -- of a process p below n, whose section starts at word `at`: the section lies in the table, and its words are those of p's history
 pub record Head (t : List ℕ) (p E at : ℕ) : Type 0 where

@@ -233,6 +233,11 @@ pub each-next : (t : List ℕ) (f : ℕ → ℕ) (p : ℕ) {u v : List ℕ} {x :
 unfolding putEach
 each-next t f p a b c = rw (b, a, c, add-one p)
 
+pub each-same : (t : List ℕ) (f g : ℕ → ℕ) (p : ℕ) → ((i : ℕ) → i < p → f i ≡ g i) → putEach t f p ≡ putEach t g p
+unfolding putEach
+each-same t f g zero e = refl
+each-same t f g (suc p) e = rw (each-same t f g p (λ i lt. e i (omega arith)), e p (omega arith))
+
 each-bytes : (t : List ℕ) (f : ℕ → ℕ) (p : ℕ) → Bytes t → Bytes (putEach t f p)
 unfolding putEach
 each-bytes t f zero b = b
