@@ -2,7 +2,7 @@
 ghost use mathlib.Core.Path.{_≡_};
 ghost use mathlib.Core.List.{[]};
 ghost use Rattle.rules.specs.Steps.{checkpoint, send, receipt};
-ghost use Rattle.rules.specs.Calls.{outcome, freshOn, stepOn, lineOn};
+ghost use Rattle.rules.specs.Calls.{outcome, freshOn, stepOn, lineOn, failedOn};
 
 #[no_mangle]
 pub extern "C" fn ckpt_fresh(table: &mut [u8], n: u32, e: u32) -> u32
@@ -37,4 +37,11 @@ pub extern "C" fn ckpt_line(table: &[u8], area: &mut [u8], number: u32) -> u32
     ensures { λ r. ⌜ outcome r (now (table .entry)) (now (area .exit)) ≡ lineOn (now (table .entry)) (now (area .entry)) number ⌝ }
 {
     lines::line(table, area, number)
+}
+
+#[no_mangle]
+pub extern "C" fn ckpt_failed(table: &[u8], area: &mut [u8], mask: u32) -> u32
+    ensures { λ r. ⌜ outcome r (now (table .entry)) (now (area .exit)) ≡ failedOn (now (table .entry)) (now (area .entry)) mask ⌝ }
+{
+    failure::failed(table, area, mask)
 }

@@ -110,6 +110,9 @@ found-next t b {n} {E} L P p lt {at} {c} {mask} {bit} {x} i z (a, d, f, g) e =
 
 -- ---- the answer
 
+pub then-two : (a : List ℕ) (n x y : ℕ) {u v w : List ℕ} → u ≡ a → v ≡ putWord u n x → w ≡ putWord v (n + 1) y → w ≡ putWord (putWord a n x) (n + 1) y
+then-two a n x y e f g = rw (g, f, e)
+
 back-same : (s : State) (P Q : List ℕ) (n : ℕ) → ((p : ℕ) → p < n → getD P p 0 ≡ getD Q p 0) → backBelow s P n ≡ backBelow s Q n
 back-same s P Q zero e = refl
 back-same s P Q (suc n) e = rw (back-same s P Q n (λ p lt. e p (omega arith)), e n (omega arith))

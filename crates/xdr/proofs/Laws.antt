@@ -221,6 +221,12 @@ all-put t ws b s l =
     bytes-of ws (putWords t 0 ws) (all-length t 0 ws ∙ l) (all-bytes t 0 ws b)
     (λ i lt. ap (word (putWords t 0 ws)) (sym (zero-add i)) ∙ all-at t 0 ws s (omega arith) i lt)
 
+-- words put one part after the other
+pub put-append : (t : List ℕ) (i : ℕ) (vs us : List ℕ) {j : ℕ} → j ≡ i + length vs → putWords (putWords t i vs) j us ≡ putWords t i (vs ++ us)
+unfolding putWords
+put-append t i [] us e = let z : _ ≡ i = e ∙ add-zero i in rw z
+put-append t i (v ∷ vs) us e = put-append (putWord t i v) (suc i) vs us (e ∙ (omega arith))
+
 -- ---- a word for each number
 
 pub each-length : (t : List ℕ) (f : ℕ → ℕ) (p : ℕ) → length (putEach t f p) ≡ length t

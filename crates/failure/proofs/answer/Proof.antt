@@ -1,3 +1,7 @@
+use lib.ListN.{getD}
+use lib.Count.{ones}
+use Rattle.xdr.specs.Words.{putEach}
+use Rattle.failure.proofs.Laws.{then-two}
 use borrow.Author.Needs.{needs}
 use Rattle.failure.proofs.answer.Statement.{statement}
 use Rattle.failure.proofs.answer.Tie as tie
@@ -28,7 +32,7 @@ same-length c = search needs
 
 -- src/lib.rt:53:1
 returns : tie.Need-returns
-returns c = ?
+returns c = let a = c .before .before .before .before .before .before .before .before .before .before .before .before .before .args in then-two (putEach (a .area .now) (λ p. getD (a .position) p 0) (a .n)) (a .n) (a .mask) (ones (a .mask)) (c .before .before .before .before .before .before .before .before .before .before .put-positions .ensures) (c .before .before .before .before .before .before .put .ensures) (c .before .before .put2 .ensures)
 
 pub answer-spec : {M : Type 1} → statement M
 answer-spec =
