@@ -79,10 +79,11 @@ fn back(t: &[u8], at: usize, p: usize, cut: Cut, r: usize) -> Cut
     let mut position = cut.position;
     let mut sends = cut.sends;
     let c = position[p];
+    let k = sends[p];
     if c <= r {
         return cut;
     }
-    let x = cuts::back_to(t, at, c, sends[p], r);
+    let x = cuts::back_to(t, at, c, k, r);
     position[p] = x.position;
     sends[p] = x.sends;
     Cut {

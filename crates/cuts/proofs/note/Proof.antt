@@ -1,103 +1,102 @@
-use native.Mathlib.Omega.{arith}
-use Rattle.xdr.specs.Words.{word}
-use mathlib.Core.Path.{_≡_, refl, sym, ap, _∙_}
 use Prim.Native.Nat.{_≤_, _-_, _+_, _*_}
+use mathlib.Core.Path.{_≡_, refl, ap, _∙_}
+use native.Mathlib.Omega.{arith}
+use lib.Dec.{eqb}
 use lib.ListN.{length, length-set}
+use borrow.Author.Needs.{needs}
+use Rattle.cuts.specs.Tests.{noted}
 use Rattle.rules.specs.Records.{sends}
 use Rattle.rules.specs.Table.{recordsAt}
-use Rattle.cuts.specs.Tests.{noted}
 use Rattle.theorems.proofs.Scans.{sends-next, sends-at-most}
+use Rattle.xdr.specs.Words.{word}
 use Rattle.cuts.proofs.Laws.{note-next, note-small}
-use lib.Dec.{eqb}
-use borrow.Author.Needs.{needs}
 use Rattle.cuts.proofs.note.Statement.{statement}
 use Rattle.cuts.proofs.note.Tie as tie
-use Rattle.cuts.proofs.note.Reads as reads
-use Rattle.cuts.proofs.note.Lts as lts
-use Rattle.layout.proofs.pick.Reads as pick-reads
-use Rattle.xdr.proofs.size.Reads as size-reads
 
 abbrev Inv-loop : tie.InvT-loop
-Inv-loop t at c e q to₀ k₀ i₀ to k i = (to ≡ noted e q (recordsAt (word t) at i) to₀) × (k ≡ sends (recordsAt (word t) at i)) × (i ≤ c) × (k ≤ i) × (length to ≡ length to₀)
+Inv-loop t at c e q to₀ k₀ i₀ to k i =
+    (to ≡ noted e q (recordsAt (word t) at i) to₀) × (k ≡ sends (recordsAt (word t) at i)) × (i ≤ c) × (k ≤ i) ×
+    (length to ≡ length to₀)
 
 abbrev μ-loop : tie.MeasureT-loop
 μ-loop t at c e q to₀ k₀ i₀ to k i = c - i
 
--- src/lib.rt:97:5
 loop-holds : tie.Need-loop-holds Inv-loop μ-loop
 loop-holds c = (refl, refl, search needs, search needs, refl)
 
--- src/lib.rt:98:22
 mul-w : tie.Need-mul-w Inv-loop μ-loop
 mul-w c = search needs
 
--- src/lib.rt:98:17
 add-w : tie.Need-add-w Inv-loop μ-loop
 add-w c = search needs
 
--- src/lib.rt:99:13
 size-requires : tie.Need-size-requires Inv-loop μ-loop
 size-requires c κs = search needs
 
--- src/lib.rt:100:66
 add-size : tie.Need-add-size Inv-loop μ-loop
 add-size c = search needs
 
--- src/lib.rt:100:53
 size-requires-2 : tie.Need-size-requires-2 Inv-loop μ-loop
 size-requires-2 c κs = search needs
 
--- src/lib.rt:100:29
 pick-requires : tie.Need-pick-requires Inv-loop μ-loop
 pick-requires c κs = search needs
 
--- src/lib.rt:100:29
 cast-to : tie.Need-cast-to Inv-loop μ-loop
-cast-to c = let m = note-small (eqb (c .before .before .size .result) 3) (c .before .size2 .result) (c .pick .ensures) in omega arith
+cast-to c =
+    let m = note-small (eqb (c .before .before .size .result) 3) (c .before .size2 .result) (c .pick .ensures) in
+    omega arith
 
--- src/lib.rt:100:12
 mul-to : tie.Need-mul-to Inv-loop μ-loop
 mul-to c = search needs
 
--- src/lib.rt:100:12
 add-to : tie.Need-add-to Inv-loop μ-loop
 add-to c = search needs
 
--- src/lib.rt:100:12
 add-to-2 : tie.Need-add-to-2 Inv-loop μ-loop
 add-to-2 c = search needs
 
--- src/lib.rt:100:9
 slice-write-to : tie.Need-slice-write-to Inv-loop μ-loop
 slice-write-to c = search needs
 
--- src/lib.rt:101:37
 add-pick : tie.Need-add-pick Inv-loop μ-loop
 add-pick c = search needs
 
--- src/lib.rt:101:9
 pick-requires-2 : tie.Need-pick-requires-2 Inv-loop μ-loop
 pick-requires-2 c κs = search needs
 
--- src/lib.rt:102:9
 add-i : tie.Need-add-i Inv-loop μ-loop
 add-i c = search needs
 
--- src/lib.rt:97:5
 loop-less : tie.Need-loop-less Inv-loop μ-loop
 loop-less c = search needs
 
--- src/lib.rt:97:5
 loop-again : tie.Need-loop-again Inv-loop μ-loop
-loop-again c = let a = c .before .before .before .before .before .before .before .before .args in let w = word (a .t .now) in let s = c .before .before .before .before .before .loop in let more = sends-next w (a .at) (s .i) (c .before .before .before .size .ensures .0) (s .inv .1) (c .pick2 .ensures) in (note-next w (a .at) (a .e) (a .q) (a .to .now) (s .i) (c .before .before .before .size .ensures .0) (c .before .before .size2 .ensures .0) (s .inv .0) (s .inv .1) (c .before .pick .ensures), more, search needs, omega (arith, more, sends-at-most w (a .at) (s .i + 1)), length-set (s .to) (a .q * a .e + s .k + 1) (c .before .pick .result) ∙ s .inv .4)
+loop-again c =
+    let c3 = c .before .before .before in
+    let c5 = c3 .before .before in
+    let c8 = c5 .before .before .before in
+    let a = c8 .args in
+    let w = word (a .t .now) in
+    let s = c5 .loop in
+    let more = sends-next w (a .at) (s .i) (c3 .size .ensures .0) (s .inv .1) (c .pick2 .ensures) in (
+      note-next w (a .at) (a .e) (a .q) (a .to .now) (s .i) (c3 .size .ensures .0) (c .before .before .size2 .ensures .0)
+          (s .inv .0) (s .inv .1) (c .before .pick .ensures),
+      more,
+      search needs,
+      omega (arith, more, sends-at-most w (a .at) (s .i + 1)),
+      length-set (s .to) (a .q * a .e + s .k + 1) (c .before .pick .result) ∙ s .inv .4,
+    )
 
--- src/lib.rt:91:1
 same-length : tie.Need-same-length Inv-loop μ-loop
 same-length c = search needs
 
--- src/lib.rt:91:1
 returns : tie.Need-returns Inv-loop μ-loop
-returns c = let h : c .before .loop .i ≡ c .before .before .before .before .args .c = omega arith in c .before .loop .inv .0 ∙ ap (λ m. noted (c .before .before .before .before .args .e) (c .before .before .before .before .args .q) (recordsAt (word (c .before .before .before .before .args .t .now)) (c .before .before .before .before .args .at) m) (c .before .before .before .before .args .to .now)) h
+returns c =
+    let c4 = c .before .before .before .before in
+    let h : c .before .loop .i ≡ c4 .args .c = omega arith in
+    c .before .loop .inv .0 ∙ ap
+    (λ m. noted (c4 .args .e) (c4 .args .q) (recordsAt (word (c4 .args .t .now)) (c4 .args .at) m) (c4 .args .to .now)) h
 
 pub note-spec : {M : Type 1} → statement M
 note-spec =

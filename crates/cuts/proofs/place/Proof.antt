@@ -1,26 +1,24 @@
-use native.Mathlib.Omega.{arith}
 use native.Mathlib.Nat.{mul-le-mul}
-use Prim.Native.Nat.{_≤_}
+use native.Mathlib.Omega.{arith}
 use borrow.Author.Needs.{needs}
 use Rattle.cuts.proofs.place.Statement.{statement}
 use Rattle.cuts.proofs.place.Tie as tie
-use Rattle.cuts.proofs.place.Reads as reads
-use Rattle.cuts.proofs.place.Lts as lts
-use Rattle.layout.proofs.pick.Reads as pick-reads
 
--- src/lib.rt:69:13
 mul-x : tie.Need-mul-x
-mul-x c = let a = c .args in let m = mul-le-mul {n₁ = a .q} {m₁ = a .e} {n₂ = 4294967295} {m₂ = 1024} (omega arith) (omega arith) in omega arith
+mul-x c =
+    let a = c .args in
+    let m = mul-le-mul {n₁ = a .q} {m₁ = a .e} {n₂ = 4294967295} {m₂ = 1024} (omega arith) (omega arith) in
+    omega arith
 
--- src/lib.rt:69:13
 add-x : tie.Need-add-x
-add-x c = let a = c .args in let m = mul-le-mul {n₁ = a .q} {m₁ = a .e} {n₂ = 4294967295} {m₂ = 1024} (omega arith) (omega arith) in omega arith
+add-x c =
+    let a = c .args in
+    let m = mul-le-mul {n₁ = a .q} {m₁ = a .e} {n₂ = 4294967295} {m₂ = 1024} (omega arith) (omega arith) in
+    omega arith
 
--- src/lib.rt:70:5
 pick-requires : tie.Need-pick-requires
 pick-requires c κs = search needs
 
--- src/lib.rt:65:1
 returns : tie.Need-returns
 returns c = search needs
 

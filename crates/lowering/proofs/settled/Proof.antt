@@ -1,41 +1,49 @@
-use native.Mathlib.Omega.{arith}
-use mathlib.Core.Path.{_≡_, refl}
+use Prim.Native.Nat.{_+_}
 use mathlib.Core.Bool.{true, false, cond}
-use Prim.Native.Nat.{ℕ, _+_}
+use mathlib.Core.Path.{_≡_, refl}
+use Rattle.lowering.specs.Lowering.{Counted, Lowered, NoneLate, total}
 use Rattle.rules.specs.Table.{decoded}
 use Rattle.theorems.proofs.Cuts.{clash}
-use Rattle.lowering.specs.Lowering.{Counted, Lowered, NoneLate, total}
 use Rattle.lowering.proofs.Cuts.{lowered-refl, lowered-trans}
 use Rattle.lowering.proofs.Steps.{sweep-less}
 use Rattle.lowering.proofs.settled.Statement.{statement}
 use Rattle.lowering.proofs.settled.Tie as tie
-use Rattle.lowering.proofs.settled.Reads as reads
-use Rattle.lowering.proofs.settled.Lts as lts
-use Rattle.lowering.proofs.sweep.Reads as sweep-reads
 
 abbrev Inv-loop : tie.InvT-loop
-Inv-loop t n e c₀ c = Counted (decoded t) (c .position) (c .sends) × Lowered (decoded t) (c₀ .position) (c .position) × ((c .moved ≡ false) → NoneLate (decoded t) (c .position) (c .sends) n)
+Inv-loop t n e c₀ c =
+    Counted (decoded t) (c .position) (c .sends) × Lowered (decoded t) (c₀ .position) (c .position) ×
+    ((c .moved ≡ false) → NoneLate (decoded t) (c .position) (c .sends) n)
 
 abbrev μ-loop : tie.MeasureT-loop
 μ-loop t n e c₀ c = cond (c .moved) (total (c .position) n + 1) 0
 
--- src/lib.rt:176:5
 loop-holds : tie.Need-loop-holds Inv-loop μ-loop
-loop-holds c = let k = c .before in (k .pre .1, lowered-refl (decoded (k .args .t .now)) (k .args .cut .position), λ z. clash true refl z)
+loop-holds c =
+    let k = c .before in
+    (k .pre .1, lowered-refl (decoded (k .args .t .now)) (k .args .cut .position), λ z. clash true refl z)
 
--- src/lib.rt:177:9
 sweep-requires : tie.Need-sweep-requires Inv-loop μ-loop
-sweep-requires c κs = (c .before .before .before .pre .0, c .before .loop .inv .0)
+sweep-requires c κs =
+    let c3 = c .before .before .before in
+    (c3 .pre .0, c .before .loop .inv .0)
 
--- src/lib.rt:176:5
 loop-less : tie.Need-loop-less Inv-loop μ-loop
-loop-less c = sweep-less (c .before .before .loop .c .moved) (c .sweep .result .moved) (total (c .sweep .result .position) (c .before .before .before .before .args .n)) (c .before .loop-test .taken) (c .sweep .ensures .2)
+loop-less c =
+    let c4 = c .before .before .before .before in
+    sweep-less (c .before .before .loop .c .moved) (c .sweep .result .moved) (total (c .sweep .result .position) (c4 .args .n))
+    (c .before .loop-test .taken) (c .sweep .ensures .2)
 
--- src/lib.rt:176:5
 loop-again : tie.Need-loop-again Inv-loop μ-loop
-loop-again c = let a = c .before .before .before .before .args in let s = c .before .before .loop in (c .sweep .ensures .0, lowered-trans (decoded (a .t .now)) (a .cut .position) (s .c .position) (c .sweep .result .position) (s .inv .1) (c .sweep .ensures .1), c .sweep .ensures .3)
+loop-again c =
+    let c4 = c .before .before .before .before in
+    let a = c4 .args in
+    let s = c .before .before .loop in (
+      c .sweep .ensures .0,
+      lowered-trans (decoded (a .t .now)) (a .cut .position) (s .c .position) (c .sweep .result .position) (s .inv .1)
+          (c .sweep .ensures .1),
+      c .sweep .ensures .3,
+    )
 
--- src/lib.rt:170:1
 returns : tie.Need-returns Inv-loop μ-loop
 returns c = let s = c .before .loop in (s .inv .0, s .inv .1, s .inv .2 (c .loop-test .left))
 

@@ -1,70 +1,74 @@
-use native.Mathlib.Omega.{arith}
-use mathlib.Core.Path.{_≡_, refl, sym, ap, _∙_, subst}
 use Prim.Native.Nat.{ℕ, _-_, _≤_}
+use mathlib.Core.Path.{_≡_, _∙_, subst}
+use native.Mathlib.Omega.{arith}
 use lib.ListN.{length, length-set, length-replicate}
+use borrow.Author.Needs.{needs}
 use Rattle.rules.specs.Table.{decoded}
 use Rattle.lowering.proofs.Steps.{processes, Started, started-next, started-done}
-use borrow.Author.Needs.{needs}
 use Rattle.lowering.proofs.tops.Statement.{statement}
 use Rattle.lowering.proofs.tops.Tie as tie
-use Rattle.lowering.proofs.tops.Reads as reads
-use Rattle.lowering.proofs.tops.Lts as lts
-use Rattle.lowering.proofs.bit.Reads as bit-reads
-use Rattle.lowering.proofs.top.Reads as top-reads
 
 abbrev Inv-loop : tie.InvT-loop
-Inv-loop t n e mask position₀ sends₀ p₀ position sends p = (length position ≡ 16) × (length sends ≡ 16) × (p ≤ n) × Started mask (decoded t) position sends p
+Inv-loop t n e mask position₀ sends₀ p₀ position sends p =
+    (length position ≡ 16) × (length sends ≡ 16) × (p ≤ n) × Started mask (decoded t) position sends p
 
 abbrev μ-loop : tie.MeasureT-loop
 μ-loop t n e mask position₀ sends₀ p₀ position sends p = n - p
 
--- src/lib.rt:59:5
 loop-holds : tie.Need-loop-holds Inv-loop μ-loop
 loop-holds c = (length-replicate {A = ℕ} 16 0, length-replicate {A = ℕ} 16 0, search needs, λ q lt. absurd (omega arith))
 
--- src/lib.rt:60:43
 cast-bit : tie.Need-cast-bit Inv-loop μ-loop
 cast-bit c = search needs
 
--- src/lib.rt:60:33
 bit-requires : tie.Need-bit-requires Inv-loop μ-loop
 bit-requires c κs = search needs
 
--- src/lib.rt:60:13
 top-requires : tie.Need-top-requires Inv-loop μ-loop
-top-requires c κs = (c .before .before .before .before .pre, c .before .loop-test .taken)
+top-requires c κs =
+    let c4 = c .before .before .before .before in
+    (c4 .pre, c .before .loop-test .taken)
 
--- src/lib.rt:61:9
 mul-position : tie.Need-mul-position Inv-loop μ-loop
 mul-position c = search needs
 
--- src/lib.rt:61:9
 array-write-position : tie.Need-array-write-position Inv-loop μ-loop
 array-write-position c = search needs
 
--- src/lib.rt:62:9
 mul-sends : tie.Need-mul-sends Inv-loop μ-loop
 mul-sends c = search needs
 
--- src/lib.rt:62:9
 array-write-sends : tie.Need-array-write-sends Inv-loop μ-loop
 array-write-sends c = search needs
 
--- src/lib.rt:63:9
 add-p : tie.Need-add-p Inv-loop μ-loop
 add-p c = search needs
 
--- src/lib.rt:59:5
 loop-less : tie.Need-loop-less Inv-loop μ-loop
 loop-less c = search needs
 
--- src/lib.rt:59:5
 loop-again : tie.Need-loop-again Inv-loop μ-loop
-loop-again c = let a = c .before .before .before .before .before .args in let s = c .before .before .before .loop in (length-set (s .position) (s .p) (c .top .result .position) ∙ s .inv .0, length-set (s .sends) (s .p) (c .top .result .sends) ∙ s .inv .1, omega arith, started-next (a .mask) (decoded (a .t .now)) (s .position) (s .sends) (s .p) (s .inv .3) (omega arith) (omega arith) (c .before .bit .ensures) (c .top .ensures))
+loop-again c =
+    let c3 = c .before .before .before in
+    let c5 = c3 .before .before in
+    let a = c5 .args in
+    let s = c3 .loop in (
+      length-set (s .position) (s .p) (c .top .result .position) ∙ s .inv .0,
+      length-set (s .sends) (s .p) (c .top .result .sends) ∙ s .inv .1,
+      omega arith,
+      started-next (a .mask) (decoded (a .t .now)) (s .position) (s .sends) (s .p) (s .inv .3) (omega arith) (omega arith)
+          (c .before .bit .ensures) (c .top .ensures),
+    )
 
--- src/lib.rt:52:1
 returns : tie.Need-returns Inv-loop μ-loop
-returns c = let a = c .before .before .before .args in let s = c .before .loop in let n = processes (a .t .now) (λ i. omega (arith, c .before .before .shared-slice-known .given i)) (c .before .before .before .pre) in let e : s .p ≡ length (decoded (a .t .now)) = omega arith in started-done (a .mask) (decoded (a .t .now)) (s .position) (s .sends) (s .inv .0) (s .inv .1) (subst (Started (a .mask) (decoded (a .t .now)) (s .position) (s .sends)) e (s .inv .3))
+returns c =
+    let c3 = c .before .before .before in
+    let a = c3 .args in
+    let s = c .before .loop in
+    let n = processes (a .t .now) (λ i. omega (arith, c .before .before .shared-slice-known .given i)) (c3 .pre) in
+    let e : s .p ≡ length (decoded (a .t .now)) = omega arith in
+    started-done (a .mask) (decoded (a .t .now)) (s .position) (s .sends) (s .inv .0) (s .inv .1)
+    (subst (Started (a .mask) (decoded (a .t .now)) (s .position) (s .sends)) e (s .inv .3))
 
 pub tops-spec : {M : Type 1} → statement M
 tops-spec =
