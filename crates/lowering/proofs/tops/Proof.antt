@@ -53,8 +53,8 @@ loop-again c =
     let c5 = c3 .before .before in
     let a = c5 .args in
     let s = c3 .loop in (
-      length-set (s .position) (s .p) (c .top .result .position) ∙ s .inv .0,
-      length-set (s .sends) (s .p) (c .top .result .sends) ∙ s .inv .1,
+      length-set (s .position) (s .p) _ ∙ s .inv .0,
+      length-set (s .sends) (s .p) _ ∙ s .inv .1,
       omega arith,
       started-next (a .mask) (decoded (a .t .now)) (s .position) (s .sends) (s .p) (s .inv .3) (omega arith) (omega arith)
           (c .before .bit .ensures) (c .top .ensures),
