@@ -9,7 +9,7 @@
 enum { N = 3, E = 6 };
 
 static uint8_t table[8 + 12 * N * (E + 1)];
-static uint8_t area[4 * N];
+static uint8_t area[4 * N + 8];
 static int wrong;
 
 static uint32_t word(const uint8_t *at) {
@@ -47,6 +47,11 @@ int main(void) {
     told("line 0", ckpt_line(LEN, 12, 0), 0, 3, 0, 0, 0);
     told("line 1", ckpt_line(LEN, 12, 1), 0, 3, 1, 2, 1);
     told("line 2", ckpt_line(LEN, 12, 2), 0, 3, 2, 4, 3);
+    told("failed 0", ckpt_failed(LEN, 20, 0), 0, 5, 2, 4, 3, 0, 0);
+    told("failed 1", ckpt_failed(LEN, 20, 1), 0, 5, 1, 2, 1, 7, 3);
+    told("failed 2", ckpt_failed(LEN, 20, 2), 0, 5, 2, 2, 1, 6, 2);
+    told("failed 4", ckpt_failed(LEN, 20, 4), 0, 5, 2, 4, 1, 4, 1);
+    told("failed 8", ckpt_failed(LEN, 20, 8), 11, 0);
     told("receipt at 2 of (1, 1)", ckpt_receipt(LEN, 8, 2, 1, 1), 8, 0);
     told("receipt at 1 of (0, 2)", ckpt_receipt(LEN, 8, 1, 0, 2), 7, 0);
     return wrong;

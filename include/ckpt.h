@@ -4,11 +4,12 @@
    table and the answer area as they were. Numbers in the table and in answer areas are XDR unsigned integers: four bytes, most
    significant first. Areas never overlap, and nobody else writes them during a call.
 
-    1  n or e outside its range          6  other process: q >= n or q = p
-    2  length of the table               7  no send k of q to p
-    3  the table is not well laid        8  p already has that receipt
-    4  length of the answer area         9  too few records left
-    5  acting process: p >= n           10  the number is n * e already */
+    1  n or e outside its range          7  no send k of q to p
+    2  length of the table               8  p already has that receipt
+    3  the table is not well laid        9  too few records left
+    4  length of the answer area        10  the number is n * e already
+    5  acting process: p >= n           11  the mask has a bit at n or above
+    6  other process: q >= n or q = p */
 #ifndef CKPT_H
 #define CKPT_H
 
@@ -35,6 +36,12 @@ uint32_t ckpt_receipt(uint8_t *table, size_t table_len, uint8_t *area, size_t ar
 /* Numbered line: the area of 4 * n bytes gets a position for each process, that of its first checkpoint with this number or more,
    else its count of records. */
 uint32_t ckpt_line(const uint8_t *table, size_t table_len, uint8_t *area, size_t area_len, uint32_t number);
+
+/* Failure line: bit p of the mask, counted from the lowest as 0, is set where process p failed. A failed process may be at 0 or a
+   checkpoint, another at its count of records as well. The area of 4 * n + 8 bytes gets the latest of these positions at which no
+   message is received but unsent, one for each process, then the mask of the processes that go back, those whose position is below
+   their count, then how many they are. */
+uint32_t ckpt_failed(const uint8_t *table, size_t table_len, uint8_t *area, size_t area_len, uint32_t mask);
 
 #ifdef __cplusplus
 }

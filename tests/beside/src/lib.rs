@@ -6,6 +6,8 @@ use cases::{from_words, Call, Rng};
 use std::env;
 use std::fmt;
 
+pub mod cuts;
+
 const DEFAULT_SEED: u64 = 20_260_101;
 const GUARD: usize = 64;
 
@@ -72,13 +74,15 @@ impl Lent {
     }
 }
 
-fn on_proved(call: Call, table: &mut [u8], area: &mut [u8]) -> u32 {
+/// The call on the proved engine alone.
+pub fn on_proved(call: Call, table: &mut [u8], area: &mut [u8]) -> u32 {
     match call {
         Call::Fresh { n, e } => ckpt::fresh(table, n, e),
         Call::Checkpoint { p } => ckpt::checkpoint(table, area, p),
         Call::Send { p, q } => ckpt::send(table, area, p, q),
         Call::Receipt { p, q, k } => ckpt::receipt(table, area, p, q, k),
         Call::Line { number } => ckpt::line(table, area, number),
+        Call::Failed { mask } => ckpt::failed(table, area, mask),
     }
 }
 
@@ -89,6 +93,7 @@ fn on_reference(call: Call, table: &mut [u8], area: &mut [u8]) -> u32 {
         Call::Send { p, q } => reference::send(table, area, p, q),
         Call::Receipt { p, q, k } => reference::receipt(table, area, p, q, k),
         Call::Line { number } => reference::line(table, area, number),
+        Call::Failed { mask } => reference::failed(table, area, mask),
     }
 }
 
@@ -110,6 +115,10 @@ impl Pair {
         let mut pair = Pair::new(&vec![0xEE; cases::table_length(n, e)], origin);
         assert_eq!(pair.call(Call::Fresh { n, e }, &[]).0, 0, "fresh {n}, {e}");
         pair
+    }
+
+    pub fn origin(&self) -> Origin {
+        self.origin
     }
 
     /// The table as the proved engine left it.
@@ -136,7 +145,7 @@ impl Pair {
         keeps(own.content() == other.content(), "the areas differ");
         let kept = self.proved.content() == self.before;
         keeps(returned == 0 || kept && own.content() == area, "a refused call changed table or area");
-        keeps(!matches!(call, Call::Line { .. }) || kept, "a line changed the table");
+        keeps(!matches!(call, Call::Line { .. } | Call::Failed { .. }) || kept, "a line changed the table");
         (returned, own.content().to_vec())
     }
 

@@ -1,7 +1,7 @@
 //! Document 01's own cases and its table of checks. Each number is asserted as the document has it, and every call is
 //! made beside the reference engine.
 use beside::{pair_of_words, Origin, Pair};
-use cases::Call::{self, Checkpoint, Fresh, Line, Receipt, Send};
+use cases::Call::{self, Checkpoint, Failed, Fresh, Line, Receipt, Send};
 use cases::{from_words, records, table_length, to_words};
 
 const ORIGIN: Origin = Origin { test: "document 01", seed: 0, case: 0 };
@@ -43,17 +43,38 @@ fn the_worked_controller() {
     assert_eq!(pair.table(), table);
     let counts: Vec<usize> = records(pair.table()).iter().map(Vec::len).collect();
     assert_eq!(counts, [2, 4, 3]);
-    let cases: [(Call, u32, &[u32]); 5] = [
-        (Line { number: 0 }, 0, &[0, 0, 0]),    // P1
-        (Line { number: 1 }, 0, &[1, 2, 1]),    // P2
-        (Line { number: 2 }, 0, &[2, 4, 3]),    // P3
-        (Receipt { p: 2, q: 1, k: 1 }, 8, &[]), // P9
-        (Receipt { p: 1, q: 0, k: 2 }, 7, &[]), // P10
+    let cases: [(Call, u32, &[u32]); 10] = [
+        (Line { number: 0 }, 0, &[0, 0, 0]),       // P1
+        (Line { number: 1 }, 0, &[1, 2, 1]),       // P2
+        (Line { number: 2 }, 0, &[2, 4, 3]),       // P3
+        (Failed { mask: 0 }, 0, &[2, 4, 3, 0, 0]), // P4
+        (Failed { mask: 1 }, 0, &[1, 2, 1, 7, 3]), // P5
+        (Failed { mask: 2 }, 0, &[2, 2, 1, 6, 2]), // P6
+        (Failed { mask: 4 }, 0, &[2, 4, 1, 4, 1]), // P7
+        (Failed { mask: 8 }, 11, &[]),             // P8
+        (Receipt { p: 2, q: 1, k: 1 }, 8, &[]),    // P9
+        (Receipt { p: 1, q: 0, k: 2 }, 7, &[]),    // P10
     ];
     for (call, returned, answer) in cases {
         assert_eq!(pair.exact(call), (returned, answer.to_vec()), "{call:?}");
         assert_eq!(pair.table(), table, "{call:?}");
     }
+}
+
+/// The listing of the text program, by the calls that it makes.
+#[test]
+fn the_text_listing() {
+    let mut pair = Pair::fresh(2, 4, ORIGIN);
+    accept(
+        &mut pair,
+        &[
+            (Checkpoint { p: 0 }, &[1]),
+            (Send { p: 0, q: 1 }, &[1, 1]),
+            (Receipt { p: 1, q: 0, k: 1 }, &[1, 1]),
+            (Line { number: 1 }, &[1, 1]),
+            (Failed { mask: 1 }, &[1, 1, 3, 2]),
+        ],
+    );
 }
 
 #[test]
@@ -98,19 +119,27 @@ fn the_three_lengths() {
         assert_eq!(pair.call(Fresh { n, e }, &[]).0, 0);
         assert_eq!(pair.table(), from_words(&zeros));
         assert_eq!(pair.exact(Line { number: MAX }), (0, vec![0; n as usize]));
+        assert_eq!(pair.exact(Failed { mask: 1 }), (0, vec![0; n as usize + 2]));
         for other in [length - 1, length + 1] {
             assert_eq!(Pair::new(&vec![0xEE; other], ORIGIN).call(Fresh { n, e }, &[]).0, 2);
             // The other calls too, on what would be a fresh table.
             let mut table = from_words(&zeros);
             table.resize(other, 0);
-            assert_eq!(Pair::new(&table, ORIGIN).call(Line { number: 0 }, &vec![0; 4 * n as usize]).0, 2);
+            for call in [Line { number: 0 }, Failed { mask: 0 }] {
+                assert_eq!(Pair::new(&table, ORIGIN).call(call, &vec![0; call.area_length(n)]).0, 2);
+            }
         }
     }
 }
 
 /// One call of each kind but fresh.
-const CALLS: [Call; 4] =
-    [Checkpoint { p: 0 }, Send { p: 0, q: 1 }, Receipt { p: 0, q: 1, k: 1 }, Line { number: 0 }];
+const CALLS: [Call; 5] = [
+    Checkpoint { p: 0 },
+    Send { p: 0, q: 1 },
+    Receipt { p: 0, q: 1, k: 1 },
+    Line { number: 0 },
+    Failed { mask: 0 },
+];
 
 #[test]
 fn tables_under_eight_bytes() {
@@ -119,7 +148,7 @@ fn tables_under_eight_bytes() {
         for head in [[3, 6], [17, 6], [0, 0]] {
             let table = &from_words(&head)[..length];
             for call in CALLS {
-                for area in [0, 4, 8, 12] {
+                for area in [0, 4, 8, 12, 20] {
                     assert_eq!(Pair::new(table, ORIGIN).call(call, &vec![0; area]).0, 2, "{call:?}");
                 }
             }
@@ -152,12 +181,14 @@ fn empty_slices_without_bytes_behind_them() {
     assert_eq!(ckpt::send(&mut [], &mut [], 0, 1), 2);
     assert_eq!(ckpt::receipt(&mut [], &mut [], 0, 1, 1), 2);
     assert_eq!(ckpt::line(&[], &mut [], 0), 2);
+    assert_eq!(ckpt::failed(&[], &mut [], 0), 2);
     let mut table = worked_controller().table().to_vec();
     let before = table.clone();
     assert_eq!(ckpt::checkpoint(&mut table, &mut [], 0), 4);
     assert_eq!(ckpt::send(&mut table, &mut [], 0, 1), 4);
     assert_eq!(ckpt::receipt(&mut table, &mut [], 0, 1, 1), 4);
     assert_eq!(ckpt::line(&table, &mut [], 0), 4);
+    assert_eq!(ckpt::failed(&table, &mut [], 0), 4);
     assert_eq!(table, before);
 }
 
@@ -245,13 +276,18 @@ fn the_first_row_met_is_returned() {
             "{call:?}, area of {area}"
         );
     };
-    let outside =
-        [Checkpoint { p: 3 }, Send { p: 3, q: 3 }, Receipt { p: 3, q: 3, k: 0 }, Line { number: MAX }];
+    let outside = [
+        Checkpoint { p: 3 },
+        Send { p: 3, q: 3 },
+        Receipt { p: 3, q: 3, k: 0 },
+        Line { number: MAX },
+        Failed { mask: 8 },
+    ];
     for call in outside {
         for (table, returned) in bad_tables() {
             check(&table, call, 7, returned);
         }
-        for area in [0, 1, 3, 5, 7, 9, 11, 13, 16, 20] {
+        for area in [0, 1, 3, 5, 7, 9, 11, 13, 16, 19, 21, 24] {
             check(&full, call, area, 4);
         }
     }
@@ -260,6 +296,9 @@ fn the_first_row_met_is_returned() {
     check(&full, Send { p: 3, q: 3 }, 4, 4);
     check(&full, Receipt { p: 3, q: 3, k: 0 }, 4, 4);
     check(&full, Line { number: 0 }, 8, 4);
+    check(&full, Line { number: 0 }, 20, 4);
+    check(&full, Failed { mask: 8 }, 8, 4);
+    check(&full, Failed { mask: 8 }, 12, 4);
 
     for p in [3, 4, 16, 1 << 31, MAX] {
         check(&full, Checkpoint { p }, 4, 5);
@@ -282,12 +321,16 @@ fn the_first_row_met_is_returned() {
     check(&full, Send { p: 0, q: 1 }, 8, 9);
     check(&full, Checkpoint { p: 0 }, 4, 9);
     check(&from_words(&one_free()), Checkpoint { p: 0 }, 4, 10);
+    for mask in [8, 9, 15, 1 << 16, 1 << 31, MAX] {
+        check(&full, Failed { mask }, 20, 11);
+    }
 
     // Nothing is met any more.
     check(&from_words(&one_free_at(11)), Checkpoint { p: 0 }, 4, 0);
     check(&from_words(&one_free()), Send { p: 0, q: 1 }, 8, 0);
     check(&from_words(&one_free()), Receipt { p: 0, q: 1, k: 3 }, 8, 0);
     check(&full, Line { number: MAX }, 12, 0);
+    check(&full, Failed { mask: 7 }, 20, 0);
     // (1, 3) carries 2: at number 2 it takes the one record that is free, at number 1 it would force.
     check(&from_words(&one_free_at(2)), Receipt { p: 0, q: 1, k: 3 }, 8, 0);
     check(&from_words(&one_free_at(1)), Receipt { p: 0, q: 1, k: 3 }, 8, 9);
@@ -353,15 +396,14 @@ fn each_clause_of_well_laid() {
         &[(64, 1)], // the last word of the last unused record
     ];
     for changes in bad {
-        for call in
-            [Checkpoint { p: 0 }, Send { p: 0, q: 1 }, Receipt { p: 2, q: 1, k: 2 }, Line { number: 1 }]
-        {
+        for call in CALLS {
             assert_eq!(with(changes).exact(call).0, 3, "{changes:?}, {call:?}");
         }
     }
     // c above E where the next section's head would pass for a record.
     let over = [2, 2, 3, 1, 0, 1, 1, 0, 2, 1, 0, 1, 1, 0, 1, 1, 0, 0, 0, 0];
     assert_eq!(pair_of_words(&over, ORIGIN).exact(Line { number: 1 }).0, 3);
+    assert_eq!(pair_of_words(&over, ORIGIN).exact(Failed { mask: 1 }).0, 3);
     // What no run makes and well laid allows.
     let good: [&[(usize, u32)]; 7] = [
         &[(6, 18), (3, 18)],          // a number of n × E
@@ -374,6 +416,7 @@ fn each_clause_of_well_laid() {
     ];
     for changes in good {
         assert_eq!(with(changes).exact(Line { number: 0 }), (0, vec![0, 0, 0]), "{changes:?}");
+        assert_eq!(with(changes).exact(Failed { mask: 7 }).0, 0, "{changes:?}");
     }
     // Current number and send count are those of the last and not of the largest or first.
     let falling = [1, 3, 2, 1, 0, 1, 3, 0, 2, 1, 0, 0, 0, 0];

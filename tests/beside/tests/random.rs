@@ -4,15 +4,16 @@ use beside::{seed, Origin, Pair};
 use cases::{area_length, damage, messages, remember, step_or_line, table_length, well_laid, Call, Rng};
 use std::fmt;
 
-const NAMES: [&str; 5] = ["fresh", "checkpoint", "send", "receipt", "line"];
+const NAMES: [&str; 6] = ["fresh", "checkpoint", "send", "receipt", "line", "failed"];
 
 /// The numbers that document 01's rows let each call return, in the order of NAMES.
-const NUMBERS: [&[usize]; 5] = [
+const NUMBERS: [&[usize]; 6] = [
     &[0, 1, 2],
     &[0, 1, 2, 3, 4, 5, 9, 10],
     &[0, 1, 2, 3, 4, 5, 6, 9],
     &[0, 1, 2, 3, 4, 5, 6, 7, 8, 9],
     &[0, 1, 2, 3, 4],
+    &[0, 1, 2, 3, 4, 11],
 ];
 
 fn place(call: Call) -> usize {
@@ -22,13 +23,14 @@ fn place(call: Call) -> usize {
         Call::Send { .. } => 2,
         Call::Receipt { .. } => 3,
         Call::Line { .. } => 4,
+        Call::Failed { .. } => 5,
     }
 }
 
 /// How often each call returned each number, and how many calls were made on tables of the largest dimensions.
 #[derive(Default)]
 struct Tally {
-    counts: [[u64; 12]; 5],
+    counts: [[u64; 12]; 6],
     largest: u64,
 }
 
@@ -98,11 +100,12 @@ impl Case<'_> {
     fn one_of_each(&mut self) {
         let (n, e, rng) = (self.n, self.e, &mut self.rng);
         let (p, q, k) = (rng.around(n, n, e), rng.around(n, n, e), rng.around(e + 1, n, e));
-        let number = rng.around(n * e + 2, n, e);
+        let (number, mask) = (rng.around(n * e + 2, n, e), rng.mask(n));
         self.call(Call::Checkpoint { p });
         self.call(Call::Send { p, q });
         self.call(Call::Receipt { p, q, k });
         self.call(Call::Line { number });
+        self.call(Call::Failed { mask });
         self.fresh();
     }
 }

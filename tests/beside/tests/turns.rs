@@ -1,5 +1,6 @@
 //! Document 01, "Lists of calls": two lists leave the same table exactly when each process has the same accepted calls,
 //! and the numbered lines after a list have no orphan.
+use beside::cuts::has_orphan;
 use beside::{seed, Origin, Pair};
 use cases::{area_length, records, remember, step, Call, Rng};
 
@@ -64,7 +65,7 @@ impl Run {
 fn process(call: Call) -> usize {
     match call {
         Call::Checkpoint { p } | Call::Send { p, .. } | Call::Receipt { p, .. } => p as usize,
-        Call::Fresh { .. } | Call::Line { .. } => panic!("no step: {call:?}"),
+        Call::Fresh { .. } | Call::Line { .. } | Call::Failed { .. } => panic!("no step: {call:?}"),
     }
 }
 
@@ -176,13 +177,6 @@ fn tables_are_equal_exactly_when_the_accepted_calls_are() {
     }
     println!("changed lists: seed {seed}, {equal} with equal tables, {different} with different ones");
     assert!(equal > LISTS / 10 && different > LISTS / 10);
-}
-
-/// A receipt inside the cut whose sender's part of the cut has no such send to this receiver.
-fn has_orphan(sections: &[Vec<[u32; 3]>], cut: &[u32]) -> bool {
-    let part = |p: usize| &sections[p][..cut[p] as usize];
-    let orphan = |p: usize, r: &[u32; 3]| r[0] == 4 && !part(r[1] as usize).contains(&[3, p as u32, r[2]]);
-    (0..sections.len()).any(|p| part(p).iter().any(|r| orphan(p, r)))
 }
 
 #[test]

@@ -50,6 +50,17 @@ impl Rng {
             self.below(bound)
         }
     }
+
+    /// A set of failed processes: one, none, all or any; now and then with a bit at n or above.
+    pub fn mask(&mut self, n: u32) -> u32 {
+        let failed = match self.below(4) {
+            0 => 1 << self.below(n),
+            1 => self.pick(&[0, (1 << n) - 1]),
+            _ => self.below(1 << n),
+        };
+        let other = if self.one_in(12) { 1 << (n + self.below(32 - n)) } else { 0 };
+        failed | other
+    }
 }
 
 #[derive(Clone, Copy, Debug, PartialEq, Eq)]
@@ -59,6 +70,7 @@ pub enum Call {
     Send { p: u32, q: u32 },
     Receipt { p: u32, q: u32, k: u32 },
     Line { number: u32 },
+    Failed { mask: u32 },
 }
 
 impl Call {
@@ -69,6 +81,7 @@ impl Call {
             Call::Checkpoint { .. } => 4,
             Call::Send { .. } | Call::Receipt { .. } => 8,
             Call::Line { .. } => 4 * n as usize,
+            Call::Failed { .. } => 4 * n as usize + 8,
         }
     }
 }
@@ -92,6 +105,19 @@ pub fn records(table: &[u8]) -> Vec<Vec<[u32; 3]>> {
     let section =
         |s: &[u32]| s[3..].chunks_exact(3).take(s[0] as usize).map(|r| [r[0], r[1], r[2]]).collect();
     words[2..].chunks_exact(3 + 3 * words[1] as usize).map(section).collect()
+}
+
+/// The well laid table of these records, E for each process: the inverse of `records`.
+pub fn from_records(e: u32, sections: &[Vec<[u32; 3]>]) -> Vec<u8> {
+    let mut words = vec![sections.len() as u32, e];
+    for records in sections {
+        let number = records.iter().rev().find(|r| r[0] <= 2).map_or(0, |r| r[1]);
+        let sends = records.iter().filter(|r| r[0] == 3).count();
+        words.extend([records.len() as u32, number, sends as u32]);
+        words.extend(records.iter().flatten());
+        words.resize(words.len() + 3 * (e as usize - records.len()), 0);
+    }
+    from_words(&words)
 }
 
 /// The receipt of every message sent in a well laid table, received or not.
@@ -138,11 +164,13 @@ pub fn step(rng: &mut Rng, n: u32, e: u32, known: &[Call]) -> Call {
 
 /// Any call but fresh.
 pub fn step_or_line(rng: &mut Rng, n: u32, e: u32, known: &[Call]) -> Call {
-    if rng.one_in(6) {
-        let top = rng.pick(&[4, n * e + 2]);
-        Call::Line { number: rng.around(top, n, e) }
-    } else {
-        step(rng, n, e, known)
+    match rng.below(12) {
+        0 | 1 => {
+            let top = rng.pick(&[4, n * e + 2]);
+            Call::Line { number: rng.around(top, n, e) }
+        }
+        2 => Call::Failed { mask: rng.mask(n) },
+        _ => step(rng, n, e, known),
     }
 }
 

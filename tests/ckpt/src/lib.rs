@@ -34,6 +34,13 @@ mod c {
             area_len: usize,
             number: u32,
         ) -> u32;
+        pub fn ckpt_failed(
+            table: *const u8,
+            table_len: usize,
+            area: *mut u8,
+            area_len: usize,
+            mask: u32,
+        ) -> u32;
     }
 }
 
@@ -58,4 +65,8 @@ pub fn receipt(table: &mut [u8], area: &mut [u8], p: u32, q: u32, k: u32) -> u32
 
 pub fn line(table: &[u8], area: &mut [u8], number: u32) -> u32 {
     unsafe { c::ckpt_line(table.as_ptr(), table.len(), area.as_mut_ptr(), area.len(), number) }
+}
+
+pub fn failed(table: &[u8], area: &mut [u8], mask: u32) -> u32 {
+    unsafe { c::ckpt_failed(table.as_ptr(), table.len(), area.as_mut_ptr(), area.len(), mask) }
 }

@@ -187,20 +187,15 @@ impl Script {
             Call::Line { number } => {
                 self.add(format!("line {number}"), area, |t, a| reference::line(t, a, number))
             }
+            Call::Failed { mask } => {
+                self.add(format!("failed {mask}"), area, |t, a| reference::failed(t, a, mask))
+            }
         }
     }
 
     fn exact(&mut self, call: Call) -> u32 {
         let n = if self.table.len() < 8 { 1 } else { self.n().min(16) };
         self.call(call, call.area_length(n))
-    }
-
-    fn failed_in(&mut self, mask: u32, area: usize) -> u32 {
-        self.add(format!("failed {mask}"), area, |t, a| reference::failed(t, a, mask))
-    }
-
-    fn failed(&mut self, mask: u32) -> u32 {
-        self.failed_in(mask, 4 * self.n() as usize + 8)
     }
 
     fn with(mut self, calls: &[Call]) -> Script {
@@ -217,13 +212,13 @@ impl Script {
         }
         let end = 1 << self.n();
         for mask in (0..=end).chain([MAX]) {
-            self.failed(mask);
+            self.exact(Call::Failed { mask });
         }
     }
 }
 
 fn worked_controller() -> Script {
-    let mut script = Script::fresh(3, 6).with(&[
+    Script::fresh(3, 6).with(&[
         Call::Checkpoint { p: 0 },
         Call::Send { p: 0, q: 1 },
         Call::Send { p: 1, q: 2 },
@@ -234,11 +229,14 @@ fn worked_controller() -> Script {
         Call::Line { number: 0 },
         Call::Line { number: 1 },
         Call::Line { number: 2 },
-    ]);
-    for mask in [0, 1, 2, 4, 8] {
-        script.failed(mask);
-    }
-    script.with(&[Call::Receipt { p: 2, q: 1, k: 1 }, Call::Receipt { p: 1, q: 0, k: 2 }])
+        Call::Failed { mask: 0 },
+        Call::Failed { mask: 1 },
+        Call::Failed { mask: 2 },
+        Call::Failed { mask: 4 },
+        Call::Failed { mask: 8 },
+        Call::Receipt { p: 2, q: 1, k: 1 },
+        Call::Receipt { p: 1, q: 0, k: 2 },
+    ])
 }
 
 /// A run from fresh with refusals and overtaking, then its lines.
@@ -313,8 +311,8 @@ fn badly_laid() -> Vec<Script> {
         for &(place, value) in *change {
             words[place] = value;
         }
-        let mut script = Script::words(&words).with(&[calls[i % 4], calls[(i + 1) % 4]]);
-        script.failed(0);
+        let tried = [calls[i % 4], calls[(i + 1) % 4], Call::Failed { mask: 0 }];
+        let script = Script::words(&words).with(&tried);
         assert!(script.steps.iter().all(|step| step.returned == 3), "{change:?}");
         script
     });
@@ -328,11 +326,11 @@ fn each(mut script: Script, area: usize) -> Script {
         Call::Send { p: 2, q: 2 },
         Call::Receipt { p: 2, q: 2, k: 0 },
         Call::Line { number: MAX },
+        Call::Failed { mask: MAX },
     ];
     for call in calls {
         script.call(call, area);
     }
-    script.failed_in(MAX, area);
     script
 }
 
