@@ -2,15 +2,15 @@
 use mathlib.Core.Path.{_≡_, refl, sym, ap, _∙_, subst}
 use mathlib.Core.Logic.{_≢_}
 use mathlib.Core.Bool.{Bool, true, false, not, cond, _&&_, _||_}
-use mathlib.Core.List.{List, _∷_}
+use mathlib.Core.List.{List}
 use Prim.Native.Nat.{ℕ, zero, suc, _+_, _-_, _*_, _%_, _≤_, _<_, zero-le}
 use native.Mathlib.Numerals.{add-one}
 use native.Mathlib.Omega.{arith}
 use native.Mathlib.Decide.{decLt}
 use lib.Dec.{ltb, eqb}
 use lib.ListN.{length, getD, set}
-use borrow.Author.Tests.{ltb-true, ltb-false, le-ltb, eqb-true, eqb-false, eq-eqb, ne-eqb, not-true, not-false}
-use Rattle.rules.specs.Records.{Event, History, sends}
+use borrow.Author.Tests.{ltb-true, ltb-false, le-ltb, eqb-true, eq-eqb, ne-eqb, not-false}
+use Rattle.rules.specs.Records.{Event, sends}
 use Rattle.rules.specs.Table.{eventOf, recordsAt}
 use Rattle.rules.specs.Lines.{isCheckpoint, lastSaved, any, before}
 use Rattle.theorems.proofs.Histories.{Test, passes, fails, test}

@@ -1,7 +1,7 @@
 -- What the scans for a failure line ask of a record.
 use mathlib.Core.Bool.{Bool, false, not, cond}
 use mathlib.Core.List.{List, [], _∷_}
-use Prim.Native.Nat.{ℕ, suc, _+_, _*_, _%_}
+use Prim.Native.Nat.{ℕ, _+_, _*_, _%_}
 use lib.Dec.{ltb, eqb}
 use lib.ListN.{length, getD, set}
 use Rattle.rules.specs.Records.{Event, basic, forced, sent, received, History, sends}

@@ -1,14 +1,14 @@
 -- The rows of a failure line, the mask of the processes that go back, and the outcome from its parts.
 use mathlib.Core.Path.{_≡_, refl, sym, ap, _∙_, subst}
 use mathlib.Core.Logic.{_≢_}
-use mathlib.Core.Bool.{Bool, true, false, not, cond}
+use mathlib.Core.Bool.{cond}
 use mathlib.Core.List.{List, [], _∷_, _++_}
 use Prim.Native.Nat.{ℕ, zero, suc, _+_, _*_, _/_, _^_, _≤_, _<_}
 use native.Mathlib.Nat.{le-trans, pow-suc, pow-le-pow-right, div-eq-of-lt, div-lt-iff-lt-mul}
 use native.Mathlib.Numerals.{add-one}
 use native.Mathlib.Omega.{arith}
 use native.Mathlib.Decide.{decLt}
-use lib.Dec.{leb, ltb, eqb}
+use lib.Dec.{ltb, eqb}
 use lib.ListN.{length, getD, length-append, List·getD-append}
 use lib.Seq.{getD-append-add}
 use lib.Count.{ones, ones-le}
@@ -17,12 +17,12 @@ use Rattle.xdr.specs.Words.{word, bytes, putWord, putEach}
 use Rattle.xdr.proofs.Laws.{Bytes, Small, each-same, each-put}
 use Rattle.rules.specs.Records.{State, history}
 use Rattle.rules.specs.Table.{start, decoded}
-use Rattle.rules.specs.Lines.{failureLine, goesBack, backBelow, backMask}
+use Rattle.rules.specs.Lines.{failureLine, backBelow, backMask}
 use Rattle.rules.specs.Calls.{outcome, first, tableRows, failureRows, failureAnswer, failedOn}
 use Rattle.theorems.proofs.Steps.{none-met, first-none}
 use Rattle.theorems.proofs.WellLaid.{decoded-count, decoded-short}
 use Rattle.theorems.proofs.Laid.{small-append}
-use Rattle.theorems.proofs.OneCall.{Whole, whole, split-zero}
+use Rattle.theorems.proofs.OneCall.{whole, split-zero}
 use Rattle.theorems.proofs.Failure.{failure-line}
 use Rattle.theorems.proofs.Masks.{mask-lt}
 use Rattle.theorems.proofs.Outcomes.{judged-stop, judged-done, stopped, going}

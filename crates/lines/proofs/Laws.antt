@@ -1,16 +1,12 @@
 -- The rows of a numbered line, and its outcome from its parts.
 use mathlib.Core.Path.{_≡_, refl, sym, ap, _∙_}
 use mathlib.Core.Logic.{_≢_}
-use mathlib.Core.Bool.{not}
 use mathlib.Core.List.{List, [], _∷_, _++_}
-use Prim.Native.Nat.{ℕ, zero, suc, _+_, _*_, _≤_, _<_}
-use native.Mathlib.Nat.{le-trans, not-suc-le-zero}
-use native.Mathlib.Numerals.{add-one}
+use Prim.Native.Nat.{ℕ, suc, _+_, _*_, _≤_, _<_}
+use native.Mathlib.Nat.{le-trans}
 use native.Mathlib.Omega.{arith}
 use lib.Dec.{eqb}
-use lib.ListN.{length, getD, length-append, List·getD-append, length-map}
-use lib.Seq.{ext-getD, getD-append-add}
-use native.Mathlib.Decide.{decLt}
+use lib.ListN.{length, length-map}
 use borrow.Author.Tests.{eqb-true, not-false, eq-eqb, ne-eqb}
 use Rattle.xdr.specs.Words.{word, putEach}
 use Rattle.xdr.proofs.Laws.{Bytes, Small, each-put}

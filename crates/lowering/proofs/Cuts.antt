@@ -1,21 +1,20 @@
 -- A process of a cut is taken back: what that keeps, and when the cut that is left has no orphan. About records alone.
 use mathlib.Core.Path.{_≡_, refl, sym, ap, _∙_, subst}
 use mathlib.Core.Logic.{_≢_}
-use mathlib.Core.Bool.{Bool, true, false, not, cond}
-use mathlib.Core.List.{List, [], _∷_, List·Memᴰ, List·Memᴰ·not-nil}
-use Prim.Native.Nat.{ℕ, zero, suc, _+_, _%_, _≤_, _<_, zero-le}
+use mathlib.Core.Bool.{Bool, true, false, not}
+use mathlib.Core.List.{List, [], List·Memᴰ, List·Memᴰ·not-nil}
+use Prim.Native.Nat.{ℕ, zero, suc, _+_, _%_, _≤_, _<_}
 use native.Mathlib.Nat.{le-refl, le-trans, mod-eq-of-lt}
 use native.Mathlib.Omega.{arith}
 use native.Mathlib.Decide.{decLt}
-use lib.Dec.{ltb, eqb}
+use lib.Dec.{eqb}
 use lib.ListN.{length, getD, set, length-set, List·getD-eq-default}
 use lib.Seq.{getD-set-same, getD-set-other}
 use borrow.Author.Tests.{ltb-false, le-ltb, eqb-true, eqb-false, not-false}
 use Rattle.rules.specs.Records.{Event, basic, forced, sent, received, History, State, history, sends, hasSend}
 use Rattle.rules.specs.Lines.{upto, part, orphan, NoOrphan, failed, permitted, Permitted, any, lowered, eachFrom, failureLine}
-use Rattle.theorems.proofs.Older.{Older}
-use Rattle.theorems.proofs.Histories.{Test, passes, fails, test, sends-older, destination-older, Held, holds-held, held-holds, holds-older}
-use Rattle.theorems.proofs.Cuts.{upto-is-older, upto-mono, any-older, any-none, none-any, lowered-le, lowered-none, lowered-permitted, lowered-keeps, permitted-le}
+use Rattle.theorems.proofs.Histories.{Test, passes, fails, test, sends-older, destination-older, holds-held, held-holds, holds-older}
+use Rattle.theorems.proofs.Cuts.{upto-is-older, upto-mono, any-older, any-none, none-any, lowered-le, lowered-permitted, lowered-keeps}
 use Rattle.theorems.proofs.Failure.{each-length, each-at, failure-line}
 use Rattle.cuts.specs.Tests.{late}
 use Rattle.lowering.specs.Lowering.{Counted, Over, Lowered, lost, NoneLost, NoneLate, total}

@@ -3,14 +3,13 @@ use mathlib.Core.Path.{_≡_, refl, sym, ap, _∙_, subst}
 use mathlib.Core.Logic.{_≢_, _⊎_, inl, inr}
 use mathlib.Core.Bool.{Bool, true, false, not, cond, _&&_}
 use mathlib.Core.List.{List, [], _∷_}
-use Prim.Native.Nat.{ℕ, zero, suc, _+_, _*_, _%_, _≤_, _<_, zero-le}
-use native.Mathlib.Nat.{le-trans, mod-eq-of-lt, mul-le-mul-right}
+use Prim.Native.Nat.{ℕ, suc, _+_, _*_, _≤_, _<_}
+use native.Mathlib.Nat.{mod-eq-of-lt, mul-le-mul-right}
 use native.Mathlib.Omega.{arith}
-use native.Mathlib.Decide.{decLt}
-use lib.Dec.{ltb, leb, eqb}
+use lib.Dec.{leb, eqb}
 use lib.ListN.{length, getD, set, length-set}
 use lib.Seq.{getD-set-same, getD-set-other}
-use borrow.Author.Tests.{lt-ltb, le-ltb, leb-true, leb-false, le-leb, lt-leb, eq-eqb, ne-eqb}
+use borrow.Author.Tests.{lt-ltb, leb-true, leb-false, le-leb, lt-leb, eq-eqb, ne-eqb}
 use Rattle.xdr.specs.Words.{word}
 use Rattle.xdr.proofs.Laws.{Bytes}
 use Rattle.rules.specs.Records.{Event, basic, forced, sent, received, History, State, history, sends, destination, hasSend}
@@ -22,7 +21,7 @@ use Rattle.theorems.proofs.Cuts.{upto-is-older}
 use Rattle.cuts.specs.Tests.{place, unsent, noteOf, noted}
 use Rattle.lowering.specs.Lowering.{Laid, Counted, lost, goes, Noted, Blank}
 use Rattle.lowering.proofs.Cuts.{decEq}
-use Rattle.lowering.proofs.Steps.{lawful, section, View, view}
+use Rattle.lowering.proofs.Steps.{lawful, section, view}
 
 module _ (E q : ℕ) (to : List ℕ) where
   pub noted-length : (h : History) → length (noted E q h to) ≡ length to

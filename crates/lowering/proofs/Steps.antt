@@ -2,20 +2,20 @@
 use mathlib.Core.Path.{_≡_, refl, sym, ap, _∙_, subst}
 use mathlib.Core.Logic.{_≢_}
 use mathlib.Core.Bool.{Bool, true, false, cond, _||_}
-use mathlib.Core.List.{List, [], _∷_}
-use Prim.Native.Nat.{ℕ, zero, suc, _+_, _*_, _≤_, _<_, zero-le}
-use native.Mathlib.Nat.{le-refl, le-trans}
+use mathlib.Core.List.{List}
+use Prim.Native.Nat.{ℕ, zero, suc, _+_, _*_, _≤_, _<_}
+use native.Mathlib.Nat.{le-trans}
 use native.Mathlib.Omega.{arith}
 use native.Mathlib.Decide.{decLt}
-use lib.Dec.{ltb, leb}
+use lib.Dec.{ltb}
 use lib.ListN.{length, getD, set, replicate, length-replicate, getD-replicate}
 use lib.Seq.{getD-set-same, getD-set-other}
-use borrow.Author.Tests.{ltb-true, lt-ltb, le-ltb, le-leb, lt-leb}
+use borrow.Author.Tests.{lt-ltb, le-ltb, le-leb, lt-leb}
 use Rattle.xdr.specs.Words.{word}
 use Rattle.xdr.proofs.Laws.{Bytes}
 use Rattle.rules.specs.Records.{Event, History, State, history, sends}
 use Rattle.rules.specs.Table.{start, recordsAt, decoded}
-use Rattle.rules.specs.Lines.{upto, part, any, before, lastSaved, lowered, failed, permitted, top}
+use Rattle.rules.specs.Lines.{upto, part, any, before, lastSaved, lowered, failed, top}
 use Rattle.rules.specs.Calls.{tableRows}
 use Rattle.theorems.proofs.Older.{Older, same, older-length}
 use Rattle.theorems.proofs.Histories.{Test, passes, fails, test}

@@ -1,18 +1,14 @@
 -- Demand 2, failure lines: what document 01 gives is answered, and it is the latest permitted cut without orphans.
-use mathlib.Core.Path.{_≡_, refl, sym, ap, _∙_, subst}
-use mathlib.Core.Bool.{true, false}
-use mathlib.Core.List.{List, [], _∷_, _++_}
-use Prim.Native.Nat.{ℕ, _+_, _*_, _^_, _<_}
-use native.Mathlib.Omega.{arith}
-use lib.ListN.{length, getD}
-use lib.Count.{ones}
+use mathlib.Core.Path.{_≡_, _∙_}
+use mathlib.Core.List.{_++_}
+use Prim.Native.Nat.{_+_, _*_, _^_}
+use lib.ListN.{length}
 use borrow.Author.Tests.{eq-eqb, lt-leb}
-use Rattle.xdr.specs.Words.{word, bytes}
-use Rattle.rules.specs.Records.{State, history}
+use Rattle.xdr.specs.Words.{word}
 use Rattle.rules.specs.Table.{decoded}
-use Rattle.rules.specs.Lines.{failed, IsFailureLine, failureLine, backBelow, backMask, goesBack}
-use Rattle.rules.specs.Calls.{outcome, first, tableRows, failureRows, failureAnswer, judged, failedOn}
-use Rattle.theorems.specs.Latest.{Answered, Latest, howMany}
+use Rattle.rules.specs.Lines.{failureLine, backMask}
+use Rattle.rules.specs.Calls.{first, tableRows, failureRows, failureAnswer, failedOn}
+use Rattle.theorems.specs.Latest.{Latest}
 use Rattle.theorems.proofs.Steps.{none-met, first-append}
 use Rattle.theorems.proofs.WellLaid.{decoded-count}
 use Rattle.theorems.proofs.Failure.{failure-line, failure-unique}
