@@ -27,7 +27,7 @@ use Rattle.theorems.proofs.OneCall.{Whole, whole, table-legal}
 use Rattle.theorems.proofs.Outcomes.{Head, head}
 use Rattle.theorems.proofs.Cuts.{last-le, top-le, top-permitted, top-latest, before-older, before-less, before-all, lowered-le, lowered-none, lowered-less, clash}
 use Rattle.cuts.specs.Tests.{late}
-use Rattle.lowering.specs.Lowering.{Laid, Counted, Over, Lowered, lost, NoneLost, NoneLate, total, Blank}
+use Rattle.lowering.specs.Lowering.{Laid, Counted, Over, Lowered, lost, total, Pruned, Swept, Blank}
 use Rattle.lowering.proofs.Cuts.{decEq, lowered-refl, lowered-trans, part-same, part-other, set-counted, set-total, Fair, lower-fair}
 
 -- ---- older parts of the records from word `at` on
@@ -259,11 +259,6 @@ started-done mask s P S lp ls f = (
 
 -- ---- sweeps
 
--- what a sweep has found, at process p
-abbrev pub Swept : State → List ℕ → List ℕ → List ℕ → Bool → ℕ → ℕ → Type 0
-Swept s P₀ P S m n p =
-    Counted s P S × Lowered s P₀ P × (total P n + cond m 1 0 ≤ total P₀ n) × ((m ≡ false) → NoneLate s P S p)
-
 pub swept-next : (s : State) (P₀ P S P′ S′ : List ℕ) (m m′ : Bool) (n p : ℕ) {moves : Bool} → Swept s P₀ P S m n p
     → Step s P S P′ S′ n p (late S) moves → m′ ≡ (m || moves) → Swept s P₀ P′ S′ m′ n (p + 1)
 swept-next s P₀ P S P′ S′ m m′ n p {moves} (C, l, f, none) u e = (
@@ -296,9 +291,6 @@ sweep-less m false x e l = rw e (omega arith)
 -- a list of 16 in every place
 pub blank : (m : ℕ) → Blank (replicate m 16) 0
 blank m i lt le = getD-replicate m i 16 0 (subst (λ (x : ℕ). i < x) (length-replicate {A = ℕ} m 16) le)
-
-abbrev pub Pruned : State → List ℕ → List ℕ → List ℕ → ℕ → Type 0
-Pruned s P₀ P S p = Counted s P S × Lowered s P₀ P × NoneLost s P p
 
 pub pruned-next : (s : State) (P₀ P S P′ S′ : List ℕ) (n p : ℕ) {moves : Bool} → Pruned s P₀ P S p → Step s P S P′ S′ n p (lost s p) moves
     → Pruned s P₀ P′ S′ (p + 1)

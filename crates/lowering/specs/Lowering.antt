@@ -52,6 +52,24 @@ abbrev pub total : List ℕ → ℕ → ℕ
 total position zero = 0
 total position (suc p) = total position p + getD position p 0
 
+-- ---- what the functions leave of a cut that was at `from`
+
+-- pruned at the first p processes
+abbrev pub Pruned : State → List ℕ → List ℕ → List ℕ → ℕ → Type 0
+Pruned s from position counts p = Counted s position counts × Lowered s from position × NoneLost s position p
+
+-- swept at the first p processes of n; where none has moved, none of these has a late receipt
+abbrev pub Swept : State → List ℕ → List ℕ → List ℕ → Bool → ℕ → ℕ → Type 0
+Swept s from position counts moved n p =
+    Counted s position counts × Lowered s from position × (total position n + cond moved 1 0 ≤ total from n)
+    × ((moved ≡ false) → NoneLate s position counts p)
+
+-- swept until none moves
+abbrev pub Settled : State → List ℕ → List ℕ → List ℕ → ℕ → Type 0
+Settled s from position counts n = Counted s position counts × Lowered s from position × NoneLate s position counts n
+
+-- ---- notes
+
 -- where send k goes, 16 if it is not there
 abbrev pub goes : History → ℕ → ℕ
 goes h k = cond (leb k (sends h)) (destination h k) 16

@@ -4,15 +4,15 @@
 // orphan in every cut: one pass takes each process back to before its first one. After that send k of process q is in the cut exactly
 // when q's part has at least k sends, so that a sweep compares numbers and searches nothing.
 ghost use mathlib.Core.Path.{_≡_};
-ghost use mathlib.Core.Bool.{true, false, cond, _||_};
-ghost use Prim.Native.Nat.{ℕ, _+_, _*_, _≤_, _<_};
+ghost use mathlib.Core.Bool.{cond, _||_};
+ghost use Prim.Native.Nat.{_+_, _*_, _≤_, _<_};
 ghost use lib.Dec.{ltb};
-ghost use lib.ListN.{length, getD, set, replicate};
+ghost use lib.ListN.{length, getD, set};
 ghost use Rattle.xdr.specs.Words.{word};
 ghost use Rattle.rules.specs.Records.{history, sends as sendsOf};
 ghost use Rattle.rules.specs.Table.{recordsAt, decoded};
-ghost use Rattle.rules.specs.Lines.{part, failed, lastSaved, top as topOf, upto};
-ghost use Rattle.lowering.specs.Lowering.{Laid, Counted, Over, Lowered, NoneLost, NoneLate, total, Noted, Blank};
+ghost use Rattle.rules.specs.Lines.{upto, failed, lastSaved, top as topOf};
+ghost use Rattle.lowering.specs.Lowering.{Laid, Counted, Over, Pruned, Swept, Settled, Noted, Blank};
 
 // Positions of sixteen processes, of which the first n count, with the counts of sends before them, and whether any has moved.
 pub struct Cut {
@@ -111,7 +111,7 @@ fn note_all(t: &[u8], n: usize, e: usize, to: &mut [u8])
 // Every process before its first receipt that is an orphan in every cut.
 fn prune(t: &[u8], n: usize, e: usize, cut: Cut, to: &[u8]) -> Cut
     requires { ⌜ Laid (now t) n e × (n * e < length (now to)) × Noted (decoded (now t)) e (now to) n × Counted (decoded (now t)) (cut .position) (cut .sends) ⌝ }
-    ensures { λ r. ⌜ Counted (decoded (now (t .entry))) (r .position) (r .sends) × Lowered (decoded (now (t .entry))) (cut .position) (r .position) × NoneLost (decoded (now (t .entry))) (r .position) n ⌝ }
+    ensures { λ r. ⌜ Pruned (decoded (now (t .entry))) (cut .position) (r .position) (r .sends) n ⌝ }
 {
     let mut c = cut;
     let mut p: usize = 0;
@@ -125,25 +125,25 @@ fn prune(t: &[u8], n: usize, e: usize, cut: Cut, to: &[u8]) -> Cut
     c
 }
 
-fn pruned_by(t: &[u8], n: usize, e: usize, cut: Cut, to: &mut [u8]) -> Cut
+fn pruned_with(t: &[u8], n: usize, e: usize, cut: Cut, to: &mut [u8]) -> Cut
     requires { ⌜ Laid (now t) n e × (n * e < length (now to)) × Blank (now to) 0 × Counted (decoded (now t)) (cut .position) (cut .sends) ⌝ }
-    ensures { λ r. ⌜ Counted (decoded (now (t .entry))) (r .position) (r .sends) × Lowered (decoded (now (t .entry))) (cut .position) (r .position) × NoneLost (decoded (now (t .entry))) (r .position) n ⌝ }
+    ensures { λ r. ⌜ Pruned (decoded (now (t .entry))) (cut .position) (r .position) (r .sends) n ⌝ }
 {
     note_all(t, n, e, to);
     prune(t, n, e, cut, &to[..])
 }
 
-// The same, with room for the notes: a small table is not to pay for the largest.
+// The same, with room for the notes: a small table does not pay for the largest.
 pub fn pruned(t: &[u8], n: usize, e: usize, cut: Cut) -> Cut
     requires { ⌜ Laid (now t) n e × Counted (decoded (now t)) (cut .position) (cut .sends) ⌝ }
-    ensures { λ r. ⌜ Counted (decoded (now (t .entry))) (r .position) (r .sends) × Lowered (decoded (now (t .entry))) (cut .position) (r .position) × NoneLost (decoded (now (t .entry))) (r .position) n ⌝ }
+    ensures { λ r. ⌜ Pruned (decoded (now (t .entry))) (cut .position) (r .position) (r .sends) n ⌝ }
 {
     if n * e < 256 {
         let mut few = [16u8; 256];
-        return pruned_by(t, n, e, cut, &mut few);
+        return pruned_with(t, n, e, cut, &mut few);
     }
     let mut many = [16u8; 16385];
-    pruned_by(t, n, e, cut, &mut many)
+    pruned_with(t, n, e, cut, &mut many)
 }
 
 // ---- sweeps
@@ -151,7 +151,7 @@ pub fn pruned(t: &[u8], n: usize, e: usize, cut: Cut) -> Cut
 // Every process before its first late receipt.
 fn sweep(t: &[u8], n: usize, e: usize, cut: Cut) -> Cut
     requires { ⌜ Laid (now t) n e × Counted (decoded (now t)) (cut .position) (cut .sends) ⌝ }
-    ensures { λ r. ⌜ Counted (decoded (now (t .entry))) (r .position) (r .sends) × Lowered (decoded (now (t .entry))) (cut .position) (r .position) × (total (r .position) n + cond (r .moved) 1 0 ≤ total (cut .position) n) × ((r .moved ≡ false) → NoneLate (decoded (now (t .entry))) (r .position) (r .sends) n) ⌝ }
+    ensures { λ r. ⌜ Swept (decoded (now (t .entry))) (cut .position) (r .position) (r .sends) (r .moved) n n ⌝ }
 {
     let mut c = cut;
     c.moved = false;
@@ -170,7 +170,7 @@ fn sweep(t: &[u8], n: usize, e: usize, cut: Cut) -> Cut
 // Sweeps until one moves no process.
 pub fn settled(t: &[u8], n: usize, e: usize, cut: Cut) -> Cut
     requires { ⌜ Laid (now t) n e × Counted (decoded (now t)) (cut .position) (cut .sends) ⌝ }
-    ensures { λ r. ⌜ Counted (decoded (now (t .entry))) (r .position) (r .sends) × Lowered (decoded (now (t .entry))) (cut .position) (r .position) × NoneLate (decoded (now (t .entry))) (r .position) (r .sends) n ⌝ }
+    ensures { λ r. ⌜ Settled (decoded (now (t .entry))) (cut .position) (r .position) (r .sends) n ⌝ }
 {
     let mut c = cut;
     c.moved = true;

@@ -2,11 +2,11 @@ use Prim.Native.Nat.{_-_, _≤_}
 use mathlib.Core.Path.{_≡_, subst}
 use native.Mathlib.Omega.{arith}
 use borrow.Author.Needs.{needs}
-use Rattle.lowering.specs.Lowering.{lost, NoneLost}
+use Rattle.lowering.specs.Lowering.{lost, NoneLost, Pruned}
 use Rattle.rules.specs.Table.{decoded}
 use Rattle.lowering.proofs.Cuts.{lowered-refl, lost-fair}
 use Rattle.lowering.proofs.Notes.{lost-first}
-use Rattle.lowering.proofs.Steps.{view, step, Pruned, pruned-next}
+use Rattle.lowering.proofs.Steps.{view, step, pruned-next}
 use Rattle.lowering.proofs.prune.Statement.{statement}
 use Rattle.lowering.proofs.prune.Tie as tie
 

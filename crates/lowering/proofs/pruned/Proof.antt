@@ -10,22 +10,22 @@ use Rattle.lowering.proofs.pruned.Tie as tie
 mul-if1 : tie.Need-mul-if1
 mul-if1 c = let a = c .before .args in let m = product (a .n) (a .e) (omega arith) (omega arith) in omega arith
 
-slice-aggregate-pruned-by : tie.Need-slice-aggregate-pruned-by
-slice-aggregate-pruned-by c = search needs
+slice-aggregate-pruned-with : tie.Need-slice-aggregate-pruned-with
+slice-aggregate-pruned-with c = search needs
 
-pruned-by-requires : tie.Need-pruned-by-requires
-pruned-by-requires c κs =
+pruned-with-requires : tie.Need-pruned-with-requires
+pruned-with-requires c κs =
     let c3 = c .before .before .before in
     (c3 .pre .0, omega (arith, length-replicate {A = ℕ} 256 16), blank 256, c3 .pre .1)
 
 returns : tie.Need-returns
 returns c = search needs
 
-slice-aggregate-pruned-by-2 : tie.Need-slice-aggregate-pruned-by-2
-slice-aggregate-pruned-by-2 c = search needs
+slice-aggregate-pruned-with-2 : tie.Need-slice-aggregate-pruned-with-2
+slice-aggregate-pruned-with-2 c = search needs
 
-pruned-by-requires-2 : tie.Need-pruned-by-requires-2
-pruned-by-requires-2 c κs =
+pruned-with-requires-2 : tie.Need-pruned-with-requires-2
+pruned-with-requires-2 c κs =
     let c3 = c .before .before .before in
     let a = c3 .args in
     let m = product (a .n) (a .e) (omega arith) (omega arith) in
@@ -39,9 +39,9 @@ pruned-spec =
     tie.close
     (tie.spec
     mul-if1
-    slice-aggregate-pruned-by
-    pruned-by-requires
+    slice-aggregate-pruned-with
+    pruned-with-requires
     returns
-    slice-aggregate-pruned-by-2
-    pruned-by-requires-2
+    slice-aggregate-pruned-with-2
+    pruned-with-requires-2
     returns-2)

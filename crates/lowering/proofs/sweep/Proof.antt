@@ -3,10 +3,10 @@ use mathlib.Core.Path.{_≡_, subst}
 use native.Mathlib.Omega.{arith}
 use borrow.Author.Needs.{needs}
 use Rattle.cuts.specs.Tests.{late}
-use Rattle.lowering.specs.Lowering.{NoneLate}
+use Rattle.lowering.specs.Lowering.{NoneLate, Swept}
 use Rattle.rules.specs.Table.{decoded}
 use Rattle.lowering.proofs.Cuts.{lowered-refl, late-fair}
-use Rattle.lowering.proofs.Steps.{processes, view, step, Swept, swept-next}
+use Rattle.lowering.proofs.Steps.{processes, view, step, swept-next}
 use Rattle.lowering.proofs.sweep.Statement.{statement}
 use Rattle.lowering.proofs.sweep.Tie as tie
 
