@@ -58,7 +58,8 @@ module _ (w : ℕ → ℕ) (at : ℕ) where
   last-next : (j : ℕ) → lastSaved (recordsAt w at (suc j)) ≡ cond (isCheckpoint (record-at j)) (suc j) (lastSaved (recordsAt w at j))
   last-next j = ap (λ (l : ℕ). cond (isCheckpoint (record-at j)) (suc l) (lastSaved (recordsAt w at j))) (records-length w at j)
 
-  pub saved-next : {i kind : ℕ} → i ≢ 0 → kind ≡ w (at + 3 * (i - 1)) → not (eqb kind 4 || eqb kind 3) ≡ eqb (lastSaved (recordsAt w at i)) i
+  pub saved-next : {i kind : ℕ} → i ≢ 0 → kind ≡ w (at + 3 * (i - 1))
+      → not (eqb kind 4 || eqb kind 3) ≡ eqb (lastSaved (recordsAt w at i)) i
   saved-next {i = zero} ne x = absurd (ne refl)
   saved-next {i = suc j} {kind} ne x =
       let d : suc j - 1 ≡ j = omega arith in
@@ -91,7 +92,8 @@ module _ (w : ℕ → ℕ) (at : ℕ) where
         skipped : s ≡ false → lastSaved (recordsAt w at j) ≡ lastSaved (recordsAt w at i)
         skipped f = sym (ap (λ (m : ℕ). lastSaved (recordsAt w at m)) up ∙ last-next j ∙ kind (test (isCheckpoint (record-at j))))
           where
-            kind : Test (isCheckpoint (record-at j)) → cond (isCheckpoint (record-at j)) (suc j) (lastSaved (recordsAt w at j)) ≡ lastSaved (recordsAt w at j)
+            kind : Test (isCheckpoint (record-at j))
+                → cond (isCheckpoint (record-at j)) (suc j) (lastSaved (recordsAt w at j)) ≡ lastSaved (recordsAt w at j)
             kind (passes x) =
                 let l : lastSaved (recordsAt w at i) ≡ i = ap (λ (m : ℕ). lastSaved (recordsAt w at m)) up ∙ last-next j ∙ rw x (sym up) in
                 clash s (is ∙ eq-eqb (lastSaved (recordsAt w at i)) i l) f
@@ -102,13 +104,15 @@ module _ (w : ℕ → ℕ) (at : ℕ) where
         go (fails x) (passes y) = clash (ltb r i || not s) t (rw (x, y))
         go (fails x) (fails y) = skipped y ∙ last (ltb-false r i x)
 
-    pub back-done : (ltb r i || not s) ≡ false → (i ≤ r → lastSaved (recordsAt w at i) ≡ lastSaved (recordsAt w at r)) → i ≡ lastSaved (recordsAt w at r)
+    pub back-done : (ltb r i || not s) ≡ false → (i ≤ r → lastSaved (recordsAt w at i) ≡ lastSaved (recordsAt w at r))
+        → i ≡ lastSaved (recordsAt w at r)
     back-done f last =
         let o = or-false (ltb r i) (not s) f in
         sym (eqb-true (lastSaved (recordsAt w at i)) i (sym is ∙ not-false s (o .1))) ∙ last (ltb-false r i (o .0))
 
   -- one record less
-  pub sends-back : {i j k kind x : ℕ} → 0 < i → j ≡ i - 1 → kind ≡ w (at + 3 * j) → k ≡ sends (recordsAt w at i) → x ≡ cond (eqb kind 3) 1 0
+  pub sends-back : {i j k kind x : ℕ} → 0 < i → j ≡ i - 1 → kind ≡ w (at + 3 * j) → k ≡ sends (recordsAt w at i)
+      → x ≡ cond (eqb kind 3) 1 0
       → (x ≤ k) × (k - x ≡ sends (recordsAt w at j))
   sends-back {i} {j} {k} {kind} {x} m d y h e = go (test (eqb kind 3))
     where
@@ -140,7 +144,8 @@ module _ (w : ℕ → ℕ) (at : ℕ) where
         go zero f = refl
         go (suc m) f = rw f (ap suc (sym (records-length w at m)))
 
-    pub first-found : {i c : ℕ} → i < c → any o (recordsAt w at i) ≡ false → o (record-at i) ≡ true → i ≡ length (before o (recordsAt w at c))
+    pub first-found : {i c : ℕ} → i < c → any o (recordsAt w at i) ≡ false → o (record-at i) ≡ true
+        → i ≡ length (before o (recordsAt w at c))
     first-found {i} {c} lt n y = go c lt .1
       where
         go : (m : ℕ) → i < m → (any o (recordsAt w at m) ≡ true) × (i ≡ length (before o (recordsAt w at m)))
@@ -164,7 +169,8 @@ module _ (w : ℕ → ℕ) (at : ℕ) where
       let b = w (at + 3 * i + 2) in
       rw (x, y, z) (sym (receipt-only (late counts) k a b (ltb (getD counts (a % 16) 0) b) (event (late counts) k a b refl)))
 
-  pub unsent-event : (E p : ℕ) (to : List ℕ) (i : ℕ) {kind a b d : ℕ} → kind ≡ w (at + 3 * i) → a ≡ w (at + 3 * i + 1) → b ≡ w (at + 3 * i + 2)
+  pub unsent-event : (E p : ℕ) (to : List ℕ) (i : ℕ) {kind a b d : ℕ} → kind ≡ w (at + 3 * i) → a ≡ w (at + 3 * i + 1)
+      → b ≡ w (at + 3 * i + 2)
       → d ≡ place E (length to) a b → (eqb kind 4 && not (eqb (getD to d 0) p)) ≡ unsent E p to (record-at i)
   unsent-event E p to i x y z u =
       let k = w (at + 3 * i) in

@@ -24,16 +24,13 @@ use Rattle.theorems.proofs.WellLaid.{decoded-count, decoded-short}
 use Rattle.theorems.proofs.Laid.{small-append}
 use Rattle.theorems.proofs.OneCall.{whole, split-zero}
 use Rattle.theorems.proofs.Failure.{failure-line}
-use Rattle.theorems.proofs.Masks.{mask-lt}
+use Rattle.theorems.proofs.Masks.{two-positive, mask-lt}
 use Rattle.theorems.proofs.Outcomes.{judged-stop, judged-done, stopped, going}
 use Rattle.lowering.specs.Lowering.{Laid, Counted, Over, Lowered, NoneLost, NoneLate}
 use Rattle.lowering.proofs.Cuts.{lost-lowered, none-clean, over-line}
 use Rattle.lowering.proofs.Steps.{is-whole, processes, section}
 
 -- ---- rows
-
-two-positive : (p : ℕ) → 0 < 2 ^ p
-two-positive p = pow-le-pow-right {n = 2} (omega arith) {i = 0} {j = p} (omega arith)
 
 module _ (t : List ℕ) (len mask : ℕ) {r : ℕ} (e : r ≡ first (tableRows t)) where
   pub failed-table : r ≢ 0 → r ≡ first (tableRows t ++ failureRows (word t 0) mask len)
@@ -64,7 +61,8 @@ pub record Asked (t a : List ℕ) (mask n E : ℕ) : Type 0 where
   pub laid : Laid t n E
   pub area : length a ≡ 4 * n + 8
 
-pub asked : (t a : List ℕ) (mask : ℕ) → Bytes t → {r n E : ℕ} → r ≡ first (tableRows t ++ failureRows (word t 0) mask (length a)) → r ≡ 0
+pub asked : (t a : List ℕ) (mask : ℕ) → Bytes t → {r n E : ℕ} → r ≡ first (tableRows t ++ failureRows (word t 0) mask (length a))
+    → r ≡ 0
     → n ≡ word t 0 → E ≡ word t 1 → Asked t a mask n E
 asked t a mask b e z i j =
     let s = split-zero (tableRows t) (failureRows (word t 0) mask (length a)) tt (sym e ∙ z) in
@@ -96,7 +94,8 @@ line-positions t b {n} {E} L mask {P} {Q} {R} {S} O a none C d late-none =
 abbrev pub Found : State → List ℕ → ℕ → ℕ → ℕ → Type 0
 Found s P p mask bit = (mask ≡ backBelow s P p) × (bit ≡ 2 ^ p) × (mask < bit) × (bit ≤ 65536)
 
-pub found-next : (t : List ℕ) → Bytes t → {n E : ℕ} → Laid t n E → (P : List ℕ) (p : ℕ) → p < n → {at c mask bit x : ℕ} → at ≡ start E p → c ≡ word t at
+pub found-next : (t : List ℕ) → Bytes t → {n E : ℕ} → Laid t n E → (P : List ℕ) (p : ℕ) → p < n → {at c mask bit x : ℕ}
+    → at ≡ start E p → c ≡ word t at
     → Found (decoded t) P p mask bit → x ≡ cond (ltb (getD P p 0) c) bit 0 → Found (decoded t) P (p + 1) (mask + x) (bit * 2)
 found-next t b {n} {E} L P p lt {at} {c} {mask} {bit} {x} i z (a, d, f, g) e =
     let s = decoded t in
@@ -110,7 +109,8 @@ found-next t b {n} {E} L P p lt {at} {c} {mask} {bit} {x} i z (a, d, f, g) e =
 
 -- ---- the answer
 
-pub then-two : (a : List ℕ) (n x y : ℕ) {u v w : List ℕ} → u ≡ a → v ≡ putWord u n x → w ≡ putWord v (n + 1) y → w ≡ putWord (putWord a n x) (n + 1) y
+pub then-two : (a : List ℕ) (n x y : ℕ) {u v w : List ℕ} → u ≡ a → v ≡ putWord u n x → w ≡ putWord v (n + 1) y
+    → w ≡ putWord (putWord a n x) (n + 1) y
 then-two a n x y e f g = rw (g, f, e)
 
 back-same : (s : State) (P Q : List ℕ) (n : ℕ) → ((p : ℕ) → p < n → getD P p 0 ≡ getD Q p 0) → backBelow s P n ≡ backBelow s Q n
@@ -165,7 +165,8 @@ module _ (t a : List ℕ) (bt : Bytes t) (ba : Bytes a) (mask : ℕ) {r n E : �
       (small-all cut (λ k lt. let h : k < n = (let y = size in omega arith) in subst (λ (x : ℕ). x ≤ 1024) (at k h) (small k h)))
       (omega arith, (omega arith, tt))
 
-  pub failed-done : {b : List ℕ} → b ≡ putWord (putWord (putEach a (λ p. getD P p 0) n) n m) (n + 1) (ones m) → outcome 0 t b ≡ failedOn t a mask
+  pub failed-done : {b : List ℕ} → b ≡ putWord (putWord (putEach a (λ p. getD P p 0) n) n m) (n + 1) (ones m)
+      → outcome 0 t b ≡ failedOn t a mask
   unfolding failedOn failureAnswer putEach
   failed-done {b} w =
       let A = asked t a mask bt e z i j in

@@ -53,11 +53,13 @@ asked t a b e z =
 pub counts : (t : List ℕ) → Whole t → {n E : ℕ} → n ≡ word t 0 → E ≡ word t 1 → (p : ℕ) → p < n → word t (start E p) ≤ E
 counts t W i j p lt = head t W p (omega arith) j refl .short
 
-pub line-refused : (t a : List ℕ) (N : ℕ) {r : ℕ} → r ≡ first (tableRows t ++ lineRows (word t 0) (length a)) → r ≢ 0 → outcome r t a ≡ lineOn t a N
+pub line-refused : (t a : List ℕ) (N : ℕ) {r : ℕ} → r ≡ first (tableRows t ++ lineRows (word t 0) (length a)) → r ≢ 0
+    → outcome r t a ≡ lineOn t a N
 unfolding lineOn
 line-refused t a N e ne = judged-stop t a t (numberedLine N (decoded t)) e ne
 
-pub line-done : (t a : List ℕ) → Bytes t → Bytes a → (N : ℕ) {r n E : ℕ} {b : List ℕ} → r ≡ first (tableRows t ++ lineRows (word t 0) (length a)) → r ≡ 0 → n ≡ word t 0 → E ≡ word t 1
+pub line-done : (t a : List ℕ) → Bytes t → Bytes a → (N : ℕ) {r n E : ℕ} {b : List ℕ}
+    → r ≡ first (tableRows t ++ lineRows (word t 0) (length a)) → r ≡ 0 → n ≡ word t 0 → E ≡ word t 1
     → b ≡ putEach a (λ p. numbered N (sectionAt (word t) E p)) n → outcome 0 t b ≡ lineOn t a N
 unfolding lineOn
 line-done t a bt ba N {r} {n} {E} e z i j w =

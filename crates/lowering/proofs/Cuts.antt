@@ -62,7 +62,8 @@ module _ (s : State) (P : List ℕ) (p : ℕ) (wide : p < length P) (v : ℕ) wh
   pub part-other : (q : ℕ) → q ≢ p → part s (set P p v) q ≡ part s P q
   part-other q ne = ap (λ (x : ℕ). upto x (history s q)) (getD-set-other P p q v 0 ne)
 
-  pub set-counted : (S : List ℕ) → Counted s P S → v ≤ getD P p 0 → {k : ℕ} → k ≡ sends (upto v (history s p)) → p < length S → p < length s → Counted s (set P p v) (set S p k)
+  pub set-counted : (S : List ℕ) → Counted s P S → v ≤ getD P p 0 → {k : ℕ} → k ≡ sends (upto v (history s p)) → p < length S
+      → p < length s → Counted s (set P p v) (set S p k)
   set-counted S C le {k} e ls lt =
       record {
         positions = length-set P p v ∙ C .positions;
@@ -130,7 +131,8 @@ lower-fair s P p wide o fair = record { down = λ q lq. down q lq (decEq q p); o
             (lowered-permitted o h (failed mask p) (getD P p 0) (O .permit p (subst (λ (x : ℕ). x < length s) z lq)))
         permit q lq (no ne) = rw (getD-set-other P p q v 0 ne) (O .permit q lq)
 
-        latest : (other : List ℕ) → Permitted mask s other → NoOrphan s other → (q : ℕ) → q < length s → Dec (q ≡ p) → getD other q 0 ≤ getD (set P p v) q 0
+        latest : (other : List ℕ) → Permitted mask s other → NoOrphan s other → (q : ℕ) → q < length s → Dec (q ≡ p)
+            → getD other q 0 ≤ getD (set P p v) q 0
         latest other A c q lq (yes z) =
             let lp = subst (λ (x : ℕ). x < length s) z lq in
             rw (z, getD-set-same P p v 0 wide)
@@ -203,7 +205,8 @@ module _ (s : State) (P S : List ℕ) (C : Counted s P S) (few : length s ≤ 16
 
 -- ---- the cut that is left is the failure line
 
-pub over-line : (mask : ℕ) (s : State) (P : List ℕ) → Over mask s P → NoOrphan s P → (p : ℕ) → p < length s → getD P p 0 ≡ getD (failureLine mask s) p 0
+pub over-line : (mask : ℕ) (s : State) (P : List ℕ) → Over mask s P → NoOrphan s P → (p : ℕ) → p < length s
+    → getD P p 0 ≡ getD (failureLine mask s) p 0
 over-line mask s P O clean p lt =
     let F = failure-line mask s in
     let a = O .latest (failureLine mask s) (F .permit) (F .clean) p lt in

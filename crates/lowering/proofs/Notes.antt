@@ -44,7 +44,8 @@ module _ (E q : ℕ) (to : List ℕ) where
       away (inr x) z = let l = sends-length h in absurd (omega arith)
 
   -- each place of q has where that send goes
-  noted-at : (n p : ℕ) → n ≤ 16 → q * E + E < length to → Blank to (q * E) → (h : History) → Legal n E p h → length h ≤ E → (k : ℕ) → 0 < k → k ≤ E
+  noted-at : (n p : ℕ) → n ≤ 16 → q * E + E < length to → Blank to (q * E) → (h : History) → Legal n E p h → length h ≤ E → (k : ℕ)
+      → 0 < k → k ≤ E
       → getD (noted E q h to) (q * E + k) 0 ≡ goes h k
   noted-at n p few room blank [] legal short k pos le = rw (lt-leb k 0 pos) (blank (q * E + k) (omega arith) (omega arith))
   noted-at n p few room blank (e ∷ h) legal short k pos le =
@@ -74,7 +75,8 @@ module _ (E q : ℕ) (to : List ℕ) where
           same (passes y) = y ∙ sym (le-leb k (suc (sends h)) (let l = leb-true k (sends h) y in omega arith))
           same (fails y) = y ∙ sym (lt-leb k (suc (sends h)) (let l = leb-false k (sends h) y in omega arith))
 
-      go : Dec (k ≡ sends h + 1) → getD u (q * E + k) 0 ≡ goes h k → getD (set u (q * E + sends h + 1) (noteOf e)) (q * E + k) 0 ≡ goes (e ∷ h) k
+      go : Dec (k ≡ sends h + 1) → getD u (q * E + k) 0 ≡ goes h k
+          → getD (set u (q * E + sends h + 1) (noteOf e)) (q * E + k) 0 ≡ goes (e ∷ h) k
       go (yes z) r =
           let i : q * E + k ≡ q * E + sends h + 1 = omega arith in
           let m = noted-length h in
@@ -105,7 +107,8 @@ noted-next s n E p to few room N B legal short {u} e = rw e (
 
 -- ---- the test by what is noted is the test for receipts that are orphans in every cut
 
-before-same : (o o′ : Event → Bool) (P : Event → History → Type 0) → ((e : Event) (h : History) → P e h → o e ≡ o′ e) → (h : History) → Each P h
+before-same : (o o′ : Event → Bool) (P : Event → History → Type 0) → ((e : Event) (h : History) → P e h → o e ≡ o′ e) → (h : History)
+    → Each P h
     → (any o h ≡ any o′ h) × (before o h ≡ before o′ h)
 before-same o o′ P f [] r = (refl, refl)
 before-same o o′ P f (e ∷ h) r =

@@ -114,7 +114,8 @@ module _ (t : List ℕ) (b : Bytes t) {n E : ℕ} (L : Laid t n E) where
           y ∙ ap sends (sym (ap (upto x) (sym e) ∙ records-upto (word t) (at + 3) x c (omega arith))),
         )
 
-    pub top-up : down ≡ false → {k : ℕ} → k ≡ word t (at + 2) → (c ≡ top down (history (decoded t) p)) × (k ≡ sends (upto c (history (decoded t) p)))
+    pub top-up : down ≡ false → {k : ℕ} → k ≡ word t (at + 2)
+        → (c ≡ top down (history (decoded t) p)) × (k ≡ sends (upto c (history (decoded t) p)))
     top-up d y =
         let H = section p lt i in
         let h = history (decoded t) p in
@@ -154,7 +155,8 @@ module _ (t : List ℕ) (b : Bytes t) {n E : ℕ} (L : Laid t n E) (P S : List �
   wide = let a = C .positions in let d = C .sixteen in let c = L .3 in let e = processes t b L in (omega arith, omega arith, omega arith)
 
   -- where the test holds for some record, the position is lowered
-  found : any o (records x) ≡ true → {r : ℕ} → r ≡ length (before o (records x)) → (ltb r x ≡ true) × (lastSaved (records r) ≡ lowered o h x)
+  found : any o (records x) ≡ true → {r : ℕ} → r ≡ length (before o (records x))
+      → (ltb r x ≡ true) × (lastSaved (records r) ≡ lowered o h x)
   found y {r} e =
       let a = before-less o (records x) y in
       let l = records-length (word t) (at + 3) x in
@@ -209,7 +211,8 @@ module _ (t : List ℕ) (b : Bytes t) {n E : ℕ} (L : Laid t n E) (P S : List �
 -- ---- what the functions give
 
 -- a process that stays where it is
-pub back-none : (P Q S R : List ℕ) (m : Bool) {r x : ℕ} → x ≤ r → (P ≡ cond (ltb r x) Q P) × (S ≡ cond (ltb r x) R S) × (m ≡ (m || ltb r x))
+pub back-none : (P Q S R : List ℕ) (m : Bool) {r x : ℕ} → x ≤ r
+    → (P ≡ cond (ltb r x) Q P) × (S ≡ cond (ltb r x) R S) × (m ≡ (m || ltb r x))
 back-none P Q S R m {r} {x} le = rw (le-ltb r x le) (refl, refl, or-none m)
   where
     or-none : (a : Bool) → a ≡ (a || false)
@@ -231,7 +234,8 @@ back-some P S p m f {r} {x} l e g = rw (lt-ltb r x l) (ap (set P p) e, ap (set S
 abbrev pub Started : ℕ → State → List ℕ → List ℕ → ℕ → Type 0
 Started mask s P S p = (q : ℕ) → q < p → (getD P q 0 ≡ top (failed mask q) (history s q)) × (getD S q 0 ≡ sends (upto (getD P q 0) (history s q)))
 
-pub started-next : (mask : ℕ) (s : State) (P S : List ℕ) (p : ℕ) → Started mask s P S p → p < length P → p < length S → {x k : ℕ} {down : Bool} → down ≡ failed mask p
+pub started-next : (mask : ℕ) (s : State) (P S : List ℕ) (p : ℕ) → Started mask s P S p → p < length P → p < length S
+    → {x k : ℕ} {down : Bool} → down ≡ failed mask p
     → (x ≡ top down (history s p)) × (k ≡ sends (upto x (history s p))) → Started mask s (set P p x) (set S p k) (p + 1)
 started-next mask s P S p f lp ls {x} {k} d g q lt = go (decEq q p)
   where
@@ -243,7 +247,8 @@ started-next mask s P S p f lp ls {x} {k} d g q lt = go (decEq q p)
         rw (e, getD-set-same P p x 0 lp, getD-set-same S p k 0 ls) (g .0 ∙ ap (λ (b : Bool). top b (history s p)) d, g .1)
     go (no ne) = rw (getD-set-other P p q x 0 ne, getD-set-other S p q k 0 ne) (f q (omega arith))
 
-pub started-done : (mask : ℕ) (s : State) (P S : List ℕ) → length P ≡ 16 → length S ≡ 16 → Started mask s P S (length s) → Counted s P S × Over mask s P
+pub started-done : (mask : ℕ) (s : State) (P S : List ℕ) → length P ≡ 16 → length S ≡ 16 → Started mask s P S (length s)
+    → Counted s P S × Over mask s P
 started-done mask s P S lp ls f = (
   record {
     positions = lp;
@@ -268,7 +273,8 @@ swept-next s P₀ P S P′ S′ m m′ n p {moves} (C, l, f, none) u e = (
   λ z q lt. settled (rw e at z) q lt (decEq q p),
 )
   where
-    falls : (a b : Bool) → total P n + cond a 1 0 ≤ total P₀ n → total P′ n + cond b 1 0 ≤ total P n → total P′ n + cond (a || b) 1 0 ≤ total P₀ n
+    falls : (a b : Bool) → total P n + cond a 1 0 ≤ total P₀ n → total P′ n + cond b 1 0 ≤ total P n
+        → total P′ n + cond (a || b) 1 0 ≤ total P₀ n
     falls true true x y = omega arith
     falls true false x y = omega arith
     falls false true x y = omega arith
@@ -292,7 +298,8 @@ sweep-less m false x e l = rw e (omega arith)
 pub blank : (m : ℕ) → Blank (replicate m 16) 0
 blank m i lt le = getD-replicate m i 16 0 (subst (λ (x : ℕ). i < x) (length-replicate {A = ℕ} m 16) le)
 
-pub pruned-next : (s : State) (P₀ P S P′ S′ : List ℕ) (n p : ℕ) {moves : Bool} → Pruned s P₀ P S p → Step s P S P′ S′ n p (lost s p) moves
+pub pruned-next : (s : State) (P₀ P S P′ S′ : List ℕ) (n p : ℕ) {moves : Bool} → Pruned s P₀ P S p
+    → Step s P S P′ S′ n p (lost s p) moves
     → Pruned s P₀ P′ S′ (p + 1)
 pruned-next s P₀ P S P′ S′ n p (C, l, none) u =
     (u .counted, lowered-trans s P₀ P P′ l (u .lowers), λ q lt. at q lt (decEq q p))

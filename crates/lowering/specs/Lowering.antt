@@ -25,7 +25,8 @@ pub record Counted (s : State) (position counts : List ℕ) : Type 0 where
 -- the positions are permitted, and no permitted cut without orphans is later at any process
 pub record Over (mask : ℕ) (s : State) (position : List ℕ) : Type 0 where
   pub permit : (p : ℕ) → p < length s → permitted (failed mask p) (history s p) (getD position p 0) ≡ true
-  pub latest : (other : List ℕ) → Permitted mask s other → NoOrphan s other → (p : ℕ) → p < length s → getD other p 0 ≤ getD position p 0
+  pub latest : (other : List ℕ) → Permitted mask s other → NoOrphan s other → (p : ℕ) → p < length s
+      → getD other p 0 ≤ getD position p 0
 
 -- lowered from one cut to another, and not past the failure line, whichever processes failed
 pub record Lowered (s : State) (from to : List ℕ) : Type 0 where

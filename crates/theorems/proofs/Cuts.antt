@@ -49,7 +49,8 @@ pub upto-exact : (t : ℕ) (h : History) → t ≤ length h → length (upto t h
 upto-exact t [] le = omega arith
 upto-exact t (e ∷ h) le = go (test (leb (suc (length h)) t)) (upto-exact t h)
   where
-    go : Test (leb (suc (length h)) t) → (t ≤ length h → length (upto t h) ≡ t) → length (cond (leb (suc (length h)) t) (e ∷ h) (upto t h)) ≡ t
+    go : Test (leb (suc (length h)) t) → (t ≤ length h → length (upto t h) ≡ t)
+        → length (cond (leb (suc (length h)) t) (e ∷ h) (upto t h)) ≡ t
     go (passes x) l = let y = leb-true (suc (length h)) t x in rw x (omega arith)
     go (fails x) l = let y = leb-false (suc (length h)) t x in rw x (l (omega arith))
 

@@ -21,12 +21,14 @@ pub each-length : {A : Type 0} (f : ℕ → A → ℕ) (ts : List A) (i : ℕ) �
 each-length f [] i = refl
 each-length f (t ∷ ts) i = ap suc (each-length f ts (suc i))
 
-each-from : {A : Type 0} (f : ℕ → A → ℕ) (d : A) (ts : List A) (i p : ℕ) → p < length ts → getD (eachFrom i f ts) p 0 ≡ f (i + p) (getD ts p d)
+each-from : {A : Type 0} (f : ℕ → A → ℕ) (d : A) (ts : List A) (i p : ℕ) → p < length ts
+    → getD (eachFrom i f ts) p 0 ≡ f (i + p) (getD ts p d)
 each-from f d [] i p lt = absurd (not-suc-le-zero lt)
 each-from f d (t ∷ ts) i zero lt = rw (add-zero i)
 each-from f d (t ∷ ts) i (suc p) lt = each-from f d ts (suc i) p (le-of-suc-le-suc lt) ∙ ap (λ (k : ℕ). f k (getD ts p d)) (suc-add i p ∙ sym (add-suc i p))
 
-pub each-at : {A : Type 0} (f : ℕ → A → ℕ) (d : A) (ts : List A) (p : ℕ) → p < length ts → getD (eachFrom 0 f ts) p 0 ≡ f p (getD ts p d)
+pub each-at : {A : Type 0} (f : ℕ → A → ℕ) (d : A) (ts : List A) (p : ℕ) → p < length ts
+    → getD (eachFrom 0 f ts) p 0 ≡ f p (getD ts p d)
 each-at f d ts p lt = each-from f d ts 0 p lt ∙ ap (λ (k : ℕ). f k (getD ts p d)) (zero-add p)
 
 -- place by place at most
@@ -85,7 +87,8 @@ round-permitted mask s cut P =
 abbrev pub AtMost : List ℕ → List ℕ → Type 0
 AtMost other cut = (p : ℕ) → getD other p 0 ≤ getD cut p 0
 
-orphan-later : (s : State) (other cut : List ℕ) → AtMost other cut → (p : ℕ) (e : Event) → orphan s other p e ≡ false → orphan s cut p e ≡ false
+orphan-later : (s : State) (other cut : List ℕ) → AtMost other cut → (p : ℕ) (e : Event) → orphan s other p e ≡ false
+    → orphan s cut p e ≡ false
 orphan-later s other cut a p (basic m) x = refl
 orphan-later s other cut a p (forced m) x = refl
 orphan-later s other cut a p (sent q) x = refl

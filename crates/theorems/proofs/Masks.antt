@@ -13,7 +13,7 @@ use Rattle.rules.specs.Records.{State, history}
 use Rattle.rules.specs.Lines.{failed, goesBack, backBelow}
 use Rattle.theorems.specs.Latest.{howMany}
 
-two-positive : (p : ℕ) → 0 < 2 ^ p
+pub two-positive : (p : ℕ) → 0 < 2 ^ p
 two-positive p = pow-le-pow-right {n = 2} (omega arith) {i = 0} {j = p} (omega arith)
 
 -- a power of two with a greater exponent is an even multiple

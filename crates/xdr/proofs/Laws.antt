@@ -13,7 +13,8 @@ use Rattle.xdr.specs.Words.{word, bytes, words, putWord, putWords, putEa
 
 -- ---- words as bytes
 
-digits : (x y z u c b a w : ℕ) → x ≡ c → a * 256 + u ≡ w → b * 256 + z ≡ a → c * 256 + y ≡ b → x * 16777216 + y * 65536 + z * 256 + u ≡ w
+digits : (x y z u c b a w : ℕ) → x ≡ c → a * 256 + u ≡ w → b * 256 + z ≡ a → c * 256 + y ≡ b
+    → x * 16777216 + y * 65536 + z * 256 + u ≡ w
 digits x y z u c b a w d e f g = omega arith
 
 pub four : (w : ℕ) → w < 4294967296 → w / 16777216 % 256 * 16777216 + w / 65536 % 256 * 65536 + w / 256 % 256 * 256 + w % 256 ≡ w
@@ -75,7 +76,8 @@ word-cons x y z u t i =
     rw (b, c, d, a)
 
 -- a list of bytes is that of its words
-pub bytes-of : (ws t : List ℕ) → length t ≡ 4 * length ws → Bytes t → ((i : ℕ) → i < length ws → word t i ≡ getD ws i 0) → t ≡ bytes ws
+pub bytes-of : (ws t : List ℕ) → length t ≡ 4 * length ws → Bytes t → ((i : ℕ) → i < length ws → word t i ≡ getD ws i 0)
+    → t ≡ bytes ws
 unfolding word
 bytes-of [] [] l b h = refl
 bytes-of [] (x ∷ t) l b h = absurd (omega arith)
@@ -189,7 +191,8 @@ all-other t i (v ∷ vs) j o = all-other (putWord t i v) (suc i) vs j (further o
     apart (inl x) = omega arith
     apart (inr x) = omega arith
 
-pub all-at : (t : List ℕ) (i : ℕ) (vs : List ℕ) → Small vs → 4 * (i + length vs) ≤ length t → (j : ℕ) → j < length vs → word (putWords t i vs) (i + j) ≡ getD vs j 0
+pub all-at : (t : List ℕ) (i : ℕ) (vs : List ℕ) → Small vs → 4 * (i + length vs) ≤ length t → (j : ℕ) → j < length vs
+    → word (putWords t i vs) (i + j) ≡ getD vs j 0
 unfolding putWords
 all-at t i [] s le j lt = absurd (not-suc-le-zero lt)
 all-at t i (v ∷ vs) s le zero lt =
@@ -207,7 +210,8 @@ pub two-puts : (t : List ℕ) (x y : ℕ) {t₁ t₂ : List ℕ} → t₁ ≡ pu
 unfolding putWords
 two-puts t x y a b = rw (b, a)
 
-pub three-puts : (t : List ℕ) (i x y z : ℕ) {t₁ t₂ t₃ : List ℕ} → t₁ ≡ putWord t i x → t₂ ≡ putWord t₁ (i + 1) y → t₃ ≡ putWord t₂ (i + 2) z
+pub three-puts : (t : List ℕ) (i x y z : ℕ) {t₁ t₂ t₃ : List ℕ} → t₁ ≡ putWord t i x → t₂ ≡ putWord t₁ (i + 1) y
+    → t₃ ≡ putWord t₂ (i + 2) z
     → t₃ ≡ putWords t i (x ∷ y ∷ z ∷ [])
 unfolding putWords
 three-puts t i x y z a b c =
@@ -222,7 +226,8 @@ all-put t ws b s l =
     (λ i lt. ap (word (putWords t 0 ws)) (sym (zero-add i)) ∙ all-at t 0 ws s (omega arith) i lt)
 
 -- words put one part after the other
-pub put-append : (t : List ℕ) (i : ℕ) (vs us : List ℕ) {j : ℕ} → j ≡ i + length vs → putWords (putWords t i vs) j us ≡ putWords t i (vs ++ us)
+pub put-append : (t : List ℕ) (i : ℕ) (vs us : List ℕ) {j : ℕ} → j ≡ i + length vs
+    → putWords (putWords t i vs) j us ≡ putWords t i (vs ++ us)
 unfolding putWords
 put-append t i [] us e = let z : _ ≡ i = e ∙ add-zero i in rw z
 put-append t i (v ∷ vs) us e = put-append (putWord t i v) (suc i) vs us (e ∙ (omega arith))
@@ -235,7 +240,8 @@ each-length t f zero = refl
 each-length t f (suc p) = put-length (putEach t f p) p (f p) ∙ each-length t f p
 
 -- one word more
-pub each-next : (t : List ℕ) (f : ℕ → ℕ) (p : ℕ) {u v : List ℕ} {x : ℕ} → u ≡ putEach t f p → v ≡ putWord u p x → x ≡ f p → v ≡ putEach t f (p + 1)
+pub each-next : (t : List ℕ) (f : ℕ → ℕ) (p : ℕ) {u v : List ℕ} {x : ℕ} → u ≡ putEach t f p → v ≡ putWord u p x → x ≡ f p
+    → v ≡ putEach t f (p + 1)
 unfolding putEach
 each-next t f p a b c = rw (b, a, c, add-one p)
 
