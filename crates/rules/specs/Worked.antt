@@ -99,3 +99,11 @@ pub equal-number : map told (outcomesOn (freshTable 2 4) (exact 0 checkpoint ∷
     ≡ (0 ∷ 1 ∷ []) ∷ (0 ∷ 1 ∷ []) ∷ (0 ∷ 1 ∷ 1 ∷ []) ∷ (0 ∷ 1 ∷ 0 ∷ []) ∷ []
 unfolding freshOn stepOn layout decoded wellLaid word
 equal-number = refl
+
+-- No run makes this table: process 1 has a receipt of send 1 of process 0, which goes to 2. It is an orphan in every cut, so process 1
+-- goes back although none failed.
+pub other-destination : told (failedOn
+    (bytes (3 ∷ 1 ∷ 1 ∷ 0 ∷ 1 ∷ 3 ∷ 2 ∷ 1 ∷ 1 ∷ 0 ∷ 0 ∷ 4 ∷ 0 ∷ 1 ∷ 0 ∷ 0 ∷ 0 ∷ 0 ∷ 0 ∷ 0 ∷ [])) (area 5) 0)
+    ≡ 0 ∷ 1 ∷ 0 ∷ 0 ∷ 2 ∷ 1 ∷ []
+unfolding failedOn decoded wellLaid word failureAnswer failureLine rounds round ones onesIn
+other-destination = refl
