@@ -40,7 +40,7 @@ uint32_t ckpt_line(const uint8_t *table, size_t table_len, uint8_t *area, size_t
 /* Failure line: bit p of the mask, counted from the lowest as 0, is set where process p failed. A failed process may be at 0 or a
    checkpoint, another at its count of records as well. The area of 4 * n + 8 bytes gets the latest of these positions at which no
    message is received but unsent, one for each process, then the mask of the processes that go back, those whose position is below
-   their count, then how many they are. Needs some 18 KiB of stack; every other call needs less than 1 KiB. */
+   their count, then how many they are. Needs some 19 KiB of stack; every other call needs less than 1 KiB. */
 uint32_t ckpt_failed(const uint8_t *table, size_t table_len, uint8_t *area, size_t area_len, uint32_t mask);
 
 #ifdef __cplusplus
