@@ -13,7 +13,7 @@ use Rattle.rules.specs.Records.{State, history}
 use Rattle.rules.specs.Table.{inRange, size, layout, fresh, decoded, wellLaid}
 use Rattle.rules.specs.Steps.{stepped}
 use Rattle.rules.specs.Lines.{numberedLine}
-use Rattle.rules.specs.Calls.{Outcome, outcome, row, first, tableRows, stepRows, answer, judged, freshOn, stepOn, lineOn}
+use Rattle.rules.specs.Calls.{Outcome, outcome, row, first, tableRows, lineRows, stepRows, answer, judged, freshOn, stepOn, lineOn}
 use Rattle.rules.specs.Lists.{Entry, entry, entryOn, outcomesOn, tableAfter, check, accepts, after, run, said, saidAll}
 use Rattle.theorems.specs.TwoLists.{AfterList, Both, TwoLists}
 use Rattle.theorems.proofs.Steps.{NoneMet, none-met, first-append, first-none}
@@ -72,7 +72,7 @@ module _ (n E : ℕ) (d : InRange n E) where
     line-said N area l =
         let t = layout n E s in
         ap (λ (r : ℕ). judged r t area t (numberedLine N (decoded t)))
-        (first-append (tableRows t) (row 4 (not (eqb (length area) (4 * word t 0))) ∷ []) unmet-rows)
+        (first-append (tableRows t) (lineRows (word t 0) (length area)) unmet-rows)
         ∙ rw (layout-n n E d s M, layout-decoded n E d s M, eq-eqb (length area) (4 * n) l)
 
   outcomes-said : (l : List Entry) (s : State) → Made n E s → outcomesOn (layout n E s) l ≡ saidAll n E s l
