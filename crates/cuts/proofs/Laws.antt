@@ -16,7 +16,7 @@ use Rattle.rules.specs.Lines.{isCheckpoint, lastSaved, any, before}
 use Rattle.theorems.proofs.Histories.{Test, passes, fails, test}
 use Rattle.theorems.proofs.Steps.{or-false}
 use Rattle.theorems.proofs.WellLaid.{records-length}
-use Rattle.theorems.proofs.Cuts.{last-le, or-right, clash}
+use Rattle.theorems.proofs.Cuts.{last-le, or-right, clash, before-all}
 use Rattle.theorems.proofs.Scans.{event, second-only, sends-next}
 use Rattle.cuts.specs.Tests.{late, place, unsent, noteOf, noted}
 
@@ -112,8 +112,7 @@ module _ (w : ℕ → ℕ) (at : ℕ) where
 
   -- one record less
   pub sends-back : {i j k kind x : ℕ} → 0 < i → j ≡ i - 1 → kind ≡ w (at + 3 * j) → k ≡ sends (recordsAt w at i)
-      → x ≡ cond (eqb kind 3) 1 0
-      → (x ≤ k) × (k - x ≡ sends (recordsAt w at j))
+      → x ≡ cond (eqb kind 3) 1 0 → (x ≤ k) × (k - x ≡ sends (recordsAt w at j))
   sends-back {i} {j} {k} {kind} {x} m d y h e = go (test (eqb kind 3))
     where
       one : cond (eqb kind 3) (sends (recordsAt w at j) + 1) (sends (recordsAt w at j)) ≡ k
@@ -138,11 +137,9 @@ module _ (w : ℕ → ℕ) (at : ℕ) where
     none-next i n f = rw (add-one i, f, n)
 
     pub first-none : {i c : ℕ} → i ≡ c → any o (recordsAt w at i) ≡ false → c ≡ length (before o (recordsAt w at c))
-    first-none {c} e n = go c (ap (λ (m : ℕ). any o (recordsAt w at m)) (sym e) ∙ n)
-      where
-        go : (m : ℕ) → any o (recordsAt w at m) ≡ false → m ≡ length (before o (recordsAt w at m))
-        go zero f = refl
-        go (suc m) f = rw f (ap suc (sym (records-length w at m)))
+    first-none {c} e n =
+        let none = ap (λ (m : ℕ). any o (recordsAt w at m)) (sym e) ∙ n in
+        sym (ap length (before-all o (recordsAt w at c) none) ∙ records-length w at c)
 
     pub first-found : {i c : ℕ} → i < c → any o (recordsAt w at i) ≡ false → o (record-at i) ≡ true
         → i ≡ length (before o (recordsAt w at c))
@@ -170,8 +167,8 @@ module _ (w : ℕ → ℕ) (at : ℕ) where
       rw (x, y, z) (sym (receipt-only (late counts) k a b (ltb (getD counts (a % 16) 0) b) (event (late counts) k a b refl)))
 
   pub unsent-event : (E p : ℕ) (to : List ℕ) (i : ℕ) {kind a b d : ℕ} → kind ≡ w (at + 3 * i) → a ≡ w (at + 3 * i + 1)
-      → b ≡ w (at + 3 * i + 2)
-      → d ≡ place E (length to) a b → (eqb kind 4 && not (eqb (getD to d 0) p)) ≡ unsent E p to (record-at i)
+      → b ≡ w (at + 3 * i + 2) → d ≡ place E (length to) a b
+      → (eqb kind 4 && not (eqb (getD to d 0) p)) ≡ unsent E p to (record-at i)
   unsent-event E p to i x y z u =
       let k = w (at + 3 * i) in
       let a = w (at + 3 * i + 1) in

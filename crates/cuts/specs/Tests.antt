@@ -19,7 +19,7 @@ late counts (received q k) = ltb (getD counts (q % 16) 0) k
 abbrev pub place : ℕ → ℕ → ℕ → ℕ → ℕ
 place E len q k = cond (ltb (q * E + k) len) (q * E + k) 0
 
--- a receipt at process p whose send is not there, or goes to another process
+-- a receipt at process p at whose place another process stands, or none
 abbrev pub unsent : ℕ → ℕ → List ℕ → Event → Bool
 unsent E p to (basic m) = false
 unsent E p to (forced m) = false

@@ -57,13 +57,12 @@ module _ (t : List ℕ) (len mask : ℕ) {r : ℕ} (e : r ≡ first (tableRows t
         sym (rest ∙ rw (eq-eqb len (4 * n + 8) l, lt-leb (2 ^ n) mask (omega arith)))
 
 -- a failure line that meets no row
-pub record Asked (t a : List ℕ) (mask n E : ℕ) : Type 0 where
+pub record Asked (t a : List ℕ) (n E : ℕ) : Type 0 where
   pub laid : Laid t n E
   pub area : length a ≡ 4 * n + 8
 
 pub asked : (t a : List ℕ) (mask : ℕ) → Bytes t → {r n E : ℕ} → r ≡ first (tableRows t ++ failureRows (word t 0) mask (length a))
-    → r ≡ 0
-    → n ≡ word t 0 → E ≡ word t 1 → Asked t a mask n E
+    → r ≡ 0 → n ≡ word t 0 → E ≡ word t 1 → Asked t a n E
 asked t a mask b e z i j =
     let s = split-zero (tableRows t) (failureRows (word t 0) mask (length a)) tt (sym e ∙ z) in
     let m = none-met (failureRows (word t 0) mask (length a)) tt (s .1) in
@@ -95,8 +94,8 @@ abbrev pub Found : State → List ℕ → ℕ → ℕ → ℕ → Type 0
 Found s P p mask bit = (mask ≡ backBelow s P p) × (bit ≡ 2 ^ p) × (mask < bit) × (bit ≤ 65536)
 
 pub found-next : (t : List ℕ) → Bytes t → {n E : ℕ} → Laid t n E → (P : List ℕ) (p : ℕ) → p < n → {at c mask bit x : ℕ}
-    → at ≡ start E p → c ≡ word t at
-    → Found (decoded t) P p mask bit → x ≡ cond (ltb (getD P p 0) c) bit 0 → Found (decoded t) P (p + 1) (mask + x) (bit * 2)
+    → at ≡ start E p → c ≡ word t at → Found (decoded t) P p mask bit
+    → x ≡ cond (ltb (getD P p 0) c) bit 0 → Found (decoded t) P (p + 1) (mask + x) (bit * 2)
 found-next t b {n} {E} L P p lt {at} {c} {mask} {bit} {x} i z (a, d, f, g) e =
     let s = decoded t in
     let k : c ≡ length (history s p) = z ∙ section t b L p lt i .count in

@@ -31,14 +31,13 @@ beyond : (s : State) (q : ℕ) → length s ≤ q → history s q ≡ []
 beyond s q le = List·getD-eq-default s [] le
 
 -- a process that has sent something is there
-sender : (s : State) (cut : List ℕ) (p q k : ℕ) → hasSend (part s cut q) p k ≡ true → q < length s
-sender s cut p q k e = go (decLt q (length s))
+sender : (s : State) (p q k : ℕ) → hasSend (history s q) p k ≡ true → q < length s
+sender s p q k e = go (decLt q (length s))
   where
     go : Dec (q < length s) → q < length s
     go (yes l) = l
     go (no l) =
-        let z : part s cut q ≡ [] = ap (upto (getD cut q 0)) (beyond s q (omega arith)) in
-        let H = holds-held [] p k (rw z at e) in
+        let H = holds-held [] p k (rw (beyond s q (omega arith)) at e) in
         absurd (let a = H .positive in let b = H .counted in omega arith)
 
 -- ---- lowered cuts
@@ -164,7 +163,7 @@ module _ (s : State) (P S : List ℕ) (C : Counted s P S) (few : length s ≤ 16
       go (received q k) x =
           let y = not-false (hasSend (part s other q) p k) x in
           let H = holds-held (part s other q) p k y in
-          let lq = sender s other p q k y in
+          let lq = sender s p q k (holds-older (upto-is-older (getD other q 0) (history s q)) p k y) in
           let a = H .counted in
           let b = sends-older (upto-mono (getD other q 0) (getD P q 0) (history s q) (O .latest other A clean q lq)) in
           let d = count-of q lq in
@@ -181,7 +180,7 @@ module _ (s : State) (P S : List ℕ) (C : Counted s P S) (few : length s ≤ 16
       go lt (received q k) a b =
           let y = not-false (hasSend (history s q) p k) a in
           let H = holds-held (history s q) p k y in
-          let lq = there (decLt q (length s)) y in
+          let lq = sender s p q k y in
           let l = ltb-false (getD S (q % 16) 0) k b in
           let d = count-of q lq in
           let le : k ≤ sends (part s P q) = omega arith in
@@ -190,12 +189,6 @@ module _ (s : State) (P S : List ℕ) (C : Counted s P S) (few : length s ≤ 16
             counted = le;
             to = sym (destination-older (upto-is-older (getD P q 0) (history s q)) k le) ∙ H .to;
           }))
-        where
-          there : Dec (q < length s) → hasSend (history s q) p k ≡ true → q < length s
-          there (yes z) y = z
-          there (no z) y =
-              let H = holds-held [] p k (rw (beyond s q (omega arith)) at y) in
-              absurd (let u = H .positive in let v = H .counted in omega arith)
 
       at : Dec (p < length s) → orphan s P p e ≡ false
       at (yes lt) = go lt e (any-none (lost s p) (part s P p) (lost-none p lt) e m) (any-none (late S) (part s P p) (late-none p lt) e m)

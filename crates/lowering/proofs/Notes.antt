@@ -108,8 +108,7 @@ noted-next s n E p to few room N B legal short {u} e = rw e (
 -- ---- the test by what is noted is the test for receipts that are orphans in every cut
 
 before-same : (o o′ : Event → Bool) (P : Event → History → Type 0) → ((e : Event) (h : History) → P e h → o e ≡ o′ e) → (h : History)
-    → Each P h
-    → (any o h ≡ any o′ h) × (before o h ≡ before o′ h)
+    → Each P h → (any o h ≡ any o′ h) × (before o h ≡ before o′ h)
 before-same o o′ P f [] r = (refl, refl)
 before-same o o′ P f (e ∷ h) r =
     let b = before-same o o′ P f h (r .1) in

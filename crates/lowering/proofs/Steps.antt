@@ -71,7 +71,6 @@ module _ (t : List ℕ) (b : Bytes t) {n E : ℕ} (L : Laid t n E) where
   pub record View (P S : List ℕ) (p at : ℕ) : Type 0 where
     pub inside : 4 * (at + 3 + 3 * getD P p 0) ≤ length t
     pub small : getD P p 0 ≤ 1024
-    pub near : at ≤ 65536
     pub all : history (decoded t) p ≡ recordsAt (word t) (at + 3) (word t at)
     pub least : getD P p 0 ≤ word t at
     pub here : part (decoded t) P p ≡ recordsAt (word t) (at + 3) (getD P p 0)
@@ -92,7 +91,6 @@ module _ (t : List ℕ) (b : Bytes t) {n E : ℕ} (L : Laid t n E) where
       record {
         inside = omega arith;
         small = omega arith;
-        near = H .near;
         all = sym (H .events);
         least = omega arith;
         here = here;
@@ -299,8 +297,7 @@ pub blank : (m : ℕ) → Blank (replicate m 16) 0
 blank m i lt le = getD-replicate m i 16 0 (subst (λ (x : ℕ). i < x) (length-replicate {A = ℕ} m 16) le)
 
 pub pruned-next : (s : State) (P₀ P S P′ S′ : List ℕ) (n p : ℕ) {moves : Bool} → Pruned s P₀ P S p
-    → Step s P S P′ S′ n p (lost s p) moves
-    → Pruned s P₀ P′ S′ (p + 1)
+    → Step s P S P′ S′ n p (lost s p) moves → Pruned s P₀ P′ S′ (p + 1)
 pruned-next s P₀ P S P′ S′ n p (C, l, none) u =
     (u .counted, lowered-trans s P₀ P P′ l (u .lowers), λ q lt. at q lt (decEq q p))
   where

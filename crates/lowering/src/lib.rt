@@ -32,8 +32,8 @@ fn bit(mask: u32, p: u32) -> bool
 }
 
 // The latest permitted position of process p, which failed if `down`.
-fn top(t: &[u8], n: usize, e: usize, p: usize, down: bool) -> cuts::Part
-    requires { ⌜ Laid (now t) n e × (p < n) ⌝ }
+fn top(t: &[u8], e: usize, p: usize, down: bool) -> cuts::Part
+    requires { ⌜ Laid (now t) (word (now t) 0) e × (p < word (now t) 0) ⌝ }
     ensures { λ r. ⌜ (r .position ≡ topOf down (history (decoded (now (t .entry))) p)) × (r .sends ≡ sendsOf (upto (r .position) (history (decoded (now (t .entry))) p))) ⌝ }
 {
     let at = layout::start(e, p);
@@ -57,7 +57,7 @@ pub fn tops(t: &[u8], n: usize, e: usize, mask: u32) -> Cut
     let mut sends = [0usize; 16];
     let mut p: usize = 0;
     while p < n {
-        let r = top(t, n, e, p, bit(mask, p as u32));
+        let r = top(t, e, p, bit(mask, p as u32));
         position[p] = r.position;
         sends[p] = r.sends;
         p += 1;
@@ -125,6 +125,7 @@ fn prune(t: &[u8], n: usize, e: usize, cut: Cut, to: &[u8]) -> Cut
     c
 }
 
+// The same; `to` is room for the notes.
 fn pruned_with(t: &[u8], n: usize, e: usize, cut: Cut, to: &mut [u8]) -> Cut
     requires { ⌜ Laid (now t) n e × (n * e < length (now to)) × Blank (now to) 0 × Counted (decoded (now t)) (cut .position) (cut .sends) ⌝ }
     ensures { λ r. ⌜ Pruned (decoded (now (t .entry))) (cut .position) (r .position) (r .sends) n ⌝ }
@@ -133,7 +134,7 @@ fn pruned_with(t: &[u8], n: usize, e: usize, cut: Cut, to: &mut [u8]) -> Cut
     prune(t, n, e, cut, &to[..])
 }
 
-// The same, with room for the notes: a small table does not pay for the largest.
+// The same. A small table does not pay for the room that the largest needs.
 pub fn pruned(t: &[u8], n: usize, e: usize, cut: Cut) -> Cut
     requires { ⌜ Laid (now t) n e × Counted (decoded (now t)) (cut .position) (cut .sends) ⌝ }
     ensures { λ r. ⌜ Pruned (decoded (now (t .entry))) (cut .position) (r .position) (r .sends) n ⌝ }

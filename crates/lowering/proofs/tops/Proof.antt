@@ -1,5 +1,5 @@
 use Prim.Native.Nat.{ℕ, _-_, _≤_}
-use mathlib.Core.Path.{_≡_, _∙_, subst}
+use mathlib.Core.Path.{_≡_, refl, _∙_, subst}
 use native.Mathlib.Omega.{arith}
 use lib.ListN.{length, length-set, length-replicate}
 use borrow.Author.Needs.{needs}
@@ -26,8 +26,8 @@ bit-requires c κs = search needs
 
 top-requires : tie.Need-top-requires Inv-loop μ-loop
 top-requires c κs =
-    let c4 = c .before .before .before .before in
-    (c4 .pre, c .before .loop-test .taken)
+    let L = c .before .before .before .before .pre in
+    ((L .0, refl, L .2, omega arith, L .4), omega arith)
 
 mul-position : tie.Need-mul-position Inv-loop μ-loop
 mul-position c = search needs
