@@ -1,14 +1,15 @@
 #!/usr/bin/env bash
-# The tests from outside, to be run once `rt ci` has passed: they link the archive of the proved engine and run it beside the
-# reference engine. Writes under target/ only. The last line is 'N passed, M failed', and the status is 0 where M is 0.
+# The tests from outside, to be run once `rt ci` has passed: they link the archive of the proved engine, start the proved text
+# program, and run both beside the reference engine. Writes under target/ only. The last line is 'N passed, M failed', and the status
+# is 0 where M is 0.
 set -uo pipefail
 cd "$(dirname "$0")/.." || exit 2
 
 made=target/tests
 mkdir -p "$made" || exit 2
 export CARGO_TARGET_DIR="$PWD/$made"
-# The engine that is tested is the one that this repository makes.
-unset CKPT_LIB_DIR
+# The engine and the program that are tested are those that this repository makes.
+unset CKPT_LIB_DIR CKPT_PROGRAM
 
 passed=0
 failed=0
@@ -45,9 +46,19 @@ reference_unchanged() {
     (cd tests && sha256sum --check --quiet reference.sha256)
 }
 
+# vectors_current NAME WORDS..: the generator, given these words, prints the vectors' file NAME
 vectors_current() {
-    cargo run --release --offline --locked --quiet --manifest-path tests/Cargo.toml -p vectors >"$made/Vectors.antt" &&
-        diff crates/vectors/specs/Vectors.antt "$made/Vectors.antt" | head -n 20
+    local name=$1
+    shift
+    cargo run --release --offline --locked --quiet --manifest-path tests/Cargo.toml -p vectors -- "$@" >"$made/$name" &&
+        diff "crates/vectors/specs/$name" "$made/$name" | head -n 20
+}
+
+program_made() {
+    [ -x target/bin/ckpt ] || {
+        echo "target/bin/ckpt is missing: run \`rt ci\` first" >&2
+        return 1
+    }
 }
 
 worked_host() {
@@ -57,8 +68,10 @@ worked_host() {
 
 check "the engine's archive" rt staticlib engine
 check "the worked controller from C" worked_host
+check "the text program is there" program_made
 check "the reference engine is as it was taken over" reference_unchanged
-check "the vectors are what the reference engine gives" vectors_current
+check "the vectors are what the reference engine gives" vectors_current Vectors.antt
+check "the text vectors are what the reference engine gives" vectors_current TextVectors.antt text
 cargo_tests reference --manifest-path tests/reference/Cargo.toml
 cargo_tests beside --manifest-path tests/Cargo.toml -p beside -- --show-output
 

@@ -5,7 +5,7 @@ use Prim.Native.Nat.{ℕ, suc, _+_, _*_, _^_}
 use lib.Dec.{leb, ltb, eqb}
 use lib.ListN.{length}
 use lib.Count.{ones}
-use Rattle.xdr.specs.Words.{word, bytes}
+use Rattle.xdr.specs.Words.{word, bytes, words}
 use Rattle.rules.specs.Records.{History, State, history, number, sends, carried, hasSend, hasReceipt}
 use Rattle.rules.specs.Table.{inRange, size, layout, fresh, decoded, wellLaid}
 use Rattle.rules.specs.Steps.{Call, checkpoint, send, receipt, nextNumber, forces, carries, stepped}
@@ -104,6 +104,10 @@ pub record Outcome : Type 0 where
 
 abbrev pub outcome : ℕ → List ℕ → List ℕ → Outcome
 outcome r t a = record { returned = r; table = t; area = a }
+
+-- what it answers: the words of the area, if it was accepted
+abbrev pub answerWords : Outcome → List ℕ
+answerWords o = cond (eqb (o .returned) 0) (words (o .area)) []
 
 -- the number r of the first row met is returned, and table and area stay untouched; if none is met, 0, with the table t′ and the
 -- answer's words

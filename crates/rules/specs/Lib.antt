@@ -5,3 +5,4 @@ pub mod Lines
 pub mod Calls
 pub mod Lists
 pub mod Worked
+pub mod Text

@@ -1,16 +1,14 @@
 -- Document 01, "A worked controller".
 use mathlib.Core.Path.{_≡_, refl}
-use mathlib.Core.Bool.{cond}
 use mathlib.Core.List.{List, [], _∷_, map}
 use Prim.Native.Nat.{ℕ, _*_}
-use lib.Dec.{eqb}
 use lib.ListN.{replicate}
 use lib.Count.{ones, onesIn}
-use Rattle.xdr.specs.Words.{word, bytes, words}
+use Rattle.xdr.specs.Words.{word, bytes}
 use Rattle.rules.specs.Table.{size, layout, decoded, wellLaid}
 use Rattle.rules.specs.Steps.{Call, checkpoint, send, receipt}
 use Rattle.rules.specs.Lines.{round, rounds, failureLine}
-use Rattle.rules.specs.Calls.{Outcome, areaLength, failureAnswer, freshOn, stepOn, lineOn, failedOn}
+use Rattle.rules.specs.Calls.{Outcome, areaLength, failureAnswer, answerWords, freshOn, stepOn, lineOn, failedOn}
 use Rattle.rules.specs.Lists.{Entry, entry, outcomesOn, tableAfter}
 
 -- the table that a fresh call leaves, whatever the bytes were
@@ -50,9 +48,9 @@ pub worked-table : tableAfter (freshTable 3 6) workedCalls ≡ worked
 unfolding freshOn stepOn layout decoded wellLaid word
 worked-table = refl
 
--- what an outcome answers: the number returned, then the words of the area where that is 0
+-- what a call gives: the number returned, then the words answered
 abbrev pub told : Outcome → List ℕ
-told o = o .returned ∷ cond (eqb (o .returned) 0) (words (o .area)) []
+told o = o .returned ∷ answerWords o
 
 -- a case: what the rules give, and what document 01 says
 pub record Case : Type 0 where

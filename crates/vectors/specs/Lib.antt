@@ -1,2 +1,3 @@
 pub mod Try
 pub mod Vectors
+pub mod TextVectors

@@ -4,15 +4,8 @@ use mathlib.Core.List.{List, [], _∷_, map}
 use Prim.Native.Nat.{ℕ}
 use lib.ListN.{replicate}
 use Rattle.xdr.specs.Words.{bytes}
-use Rattle.rules.specs.Steps.{Call}
 use Rattle.rules.specs.Calls.{Outcome, outcome, freshOn, stepOn, lineOn, failedOn}
-
--- a call of any kind
-pub data Ask : Type 0 where
-  fresh : (n : ℕ) → (E : ℕ) → Ask
-  step : (p : ℕ) → Call → Ask
-  line : (N : ℕ) → Ask
-  failed : (mask : ℕ) → Ask
+use Rattle.rules.specs.Text.{Ask, fresh, step, line, failed}
 
 -- what the rules give for a call on the table t with the area a; fresh has no area
 abbrev pub answered : List ℕ → List ℕ → Ask → Outcome

@@ -9,7 +9,8 @@ use Rattle.rules.specs.Table.{layout, decoded, wellLaid}
 use Rattle.rules.specs.Steps.{checkpoint, send, receipt}
 use Rattle.rules.specs.Lines.{round, rounds, failureLine}
 use Rattle.rules.specs.Calls.{failureAnswer, freshOn, stepOn, lineOn, failedOn}
-use Rattle.vectors.specs.Try.{Script, script, fresh, step, line, failed, refused, accepted, lent, Agree}
+use Rattle.rules.specs.Text.{fresh, step, line, failed}
+use Rattle.vectors.specs.Try.{Script, script, refused, accepted, lent, Agree}
 
 abbrev table0 : List ℕ
 table0 = bytes (3 ∷ 6 ∷ 0 ∷ 0 ∷ 0 ∷ 0 ∷ 0 ∷ 0 ∷ 0 ∷ 0 ∷ 0 ∷ 0 ∷ 0 ∷ 0 ∷ 0 ∷ 0 ∷ 0 ∷ 0 ∷ 0 ∷ 0 ∷ 0 ∷ 0 ∷ 0 ∷ 0 ∷ 0 ∷ 0 ∷ 0 ∷ 0 ∷ 0 ∷ 0 ∷ 0 ∷ 0 ∷ 0 ∷ 0 ∷ 0 ∷ 0

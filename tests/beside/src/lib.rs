@@ -7,6 +7,8 @@ use std::env;
 use std::fmt;
 
 pub mod cuts;
+pub mod program;
+pub mod texts;
 
 const DEFAULT_SEED: u64 = 20_260_101;
 const GUARD: usize = 64;
@@ -86,7 +88,8 @@ pub fn on_proved(call: Call, table: &mut [u8], area: &mut [u8]) -> u32 {
     }
 }
 
-fn on_reference(call: Call, table: &mut [u8], area: &mut [u8]) -> u32 {
+/// The call on the reference engine alone.
+pub fn on_reference(call: Call, table: &mut [u8], area: &mut [u8]) -> u32 {
     match call {
         Call::Fresh { n, e } => reference::fresh(table, n, e),
         Call::Checkpoint { p } => reference::checkpoint(table, area, p),

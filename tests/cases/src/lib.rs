@@ -84,6 +84,18 @@ impl Call {
             Call::Failed { .. } => 4 * n as usize + 8,
         }
     }
+
+    /// The call as a line of the text program has it, without the line's end.
+    pub fn text(self) -> String {
+        match self {
+            Call::Fresh { n, e } => format!("fresh,{n},{e},"),
+            Call::Checkpoint { p } => format!("checkpoint,{p},,"),
+            Call::Send { p, q } => format!("send,{p},{q},"),
+            Call::Receipt { p, q, k } => format!("receipt,{p},{q},{k}"),
+            Call::Line { number } => format!("line,{number},,"),
+            Call::Failed { mask } => format!("failed,{mask},,"),
+        }
+    }
 }
 
 pub fn table_length(n: u32, e: u32) -> usize {

@@ -1,8 +1,11 @@
 //! Prints crates/vectors/specs/Vectors.antt: scripts of calls with the outcomes that the reference engine gives, as
-//! definitions and theorems that hold the rules to them.
+//! definitions and theorems that hold the rules to them. With the word `text` it prints TextVectors.antt instead.
 use cases::{
     area_length, from_words, messages, remember, step, table_length, to_words, well_laid, Call, Rng,
 };
+use std::env;
+
+mod text;
 
 const SEED: u64 = 1;
 const COLUMNS: usize = 158;
@@ -28,7 +31,8 @@ use Rattle.rules.specs.Table.{layout, decoded, wellLaid}
 use Rattle.rules.specs.Steps.{checkpoint, send, receipt}
 use Rattle.rules.specs.Lines.{round, rounds, failureLine}
 use Rattle.rules.specs.Calls.{failureAnswer, freshOn, stepOn, lineOn, failedOn}
-use Rattle.vectors.specs.Try.{Script, script, fresh, step, line, failed, refused, accepted, lent, Agree}
+use Rattle.rules.specs.Text.{fresh, step, line, failed}
+use Rattle.vectors.specs.Try.{Script, script, refused, accepted, lent, Agree}
 ";
 
 const UNFOLDING: &str =
@@ -445,6 +449,15 @@ fn fall() -> Script {
 }
 
 fn main() {
+    let words: Vec<String> = env::args().skip(1).collect();
+    match words.iter().map(String::as_str).collect::<Vec<_>>()[..] {
+        [] => print!("{}", rules()),
+        ["text"] => print!("{}", text::text()),
+        _ => panic!("no word, or the word text: {words:?}"),
+    }
+}
+
+fn rules() -> String {
     let mut file = File { text: String::from(HEAD), tables: Vec::new(), met: [false; 12] };
     let mut rng = Rng::new(SEED);
     let worked = "The worked controller: its calls, then P1 to P10.";
@@ -469,5 +482,5 @@ fn main() {
         file.group(&format!("unmade{i}"), &note, vec![script]);
     }
     assert!(file.met.iter().all(|&met| met), "a number from 0 to 11 isn't met: {:?}", file.met);
-    print!("{}", file.text);
+    file.text
 }

@@ -1,0 +1,138 @@
+-- The digits of a number, one power of ten after the other.
+use mathlib.Core.Path.{_≡_, refl, _∙_, sym, ap, subst}
+use mathlib.Core.Bool.{Bool, true, false, cond, _&&_}
+use mathlib.Core.List.{List, [], _∷_, _++_, append-nil, append-assoc}
+use Prim.Native.Nat.{ℕ, zero, suc, _+_, _-_, _*_, _/_, _%_, _^_, _≤_, _<_, suc-le-suc}
+use native.Mathlib.Omega.{arith}
+use native.Mathlib.Numerals.{add-one}
+use native.Mathlib.Nat.{pow-suc, pow-succ', div-div-eq-div-mul, div-lt-iff-lt-mul, le-div-iff-mul-le, div-one, pow-le-pow-right, not-suc-le-zero, le-of-suc-le-suc, zero-add, add-zero, suc-add, add-suc}
+use lib.Dec.{T, leb, eqb, ltb, eqb→eq}
+use lib.ListN.{length, getD, take, set, length-set}
+use lib.Seq.{take-suc-set, append-snoc}
+use borrow.Author.Tests.{lt-ltb, le-ltb, leb-true, leb-false}
+use Rattle.rules.specs.Text.{decimal, lastDigits}
+use Rattle.decimal.specs.Appended.{Appended, Digits}
+
+-- ---- the table
+
+abbrev pub powers : List ℕ
+powers = 1 ∷ 10 ∷ 100 ∷ 1000 ∷ 10000 ∷ 100000 ∷ 1000000 ∷ 10000000 ∷ 100000000 ∷ 1000000000 ∷ []
+
+-- each entry is the power of ten of its place, counted from i
+abbrev rising : ℕ → List ℕ → Bool
+rising i [] = true
+rising i (x ∷ xs) = eqb x (10 ^ i) && rising (suc i) xs
+
+left : (a b : Bool) → T (a && b) → T a
+left true b t = tt
+left false b t = t
+
+right : (a b : Bool) → T (a && b) → T b
+right true b t = t
+right false b t = absurd t
+
+at-place : (xs : List ℕ) (i : ℕ) → T (rising i xs) → (k : ℕ) → k < length xs → getD xs k 0 ≡ 10 ^ (i + k)
+at-place [] i t k h = absurd (not-suc-le-zero h)
+at-place (x ∷ xs) i t zero h = eqb→eq x (10 ^ i) (left (eqb x (10 ^ i)) (rising (suc i) xs) t) ∙ ap (λ (m : ℕ). 10 ^ m) (sym (add-zero i))
+at-place (x ∷ xs) i t (suc k) h =
+    at-place xs (suc i) (right (eqb x (10 ^ i)) (rising (suc i) xs) t) k (le-of-suc-le-suc h) ∙ ap (λ (m : ℕ). 10 ^ m) (suc-add i k ∙ sym (add-suc i k))
+
+-- the table's rule, from one test over the whole of it
+pub power-at : (k : ℕ) → k < 10 → getD powers k 0 ≡ 10 ^ k
+power-at k h = at-place powers 0 tt k h ∙ ap (λ (m : ℕ). 10 ^ m) (zero-add k)
+
+power-pos : (i : ℕ) → 0 < 10 ^ i
+power-pos i = pow-le-pow-right {n = 10} (omega arith) {i = 0} {j = i} (omega arith)
+
+-- a power is no zero divisor
+pub power-some : (x i : ℕ) → x ≡ 10 ^ i → 0 < x
+power-some x i e = subst (λ (y : ℕ). 0 < y) (sym e) (power-pos i)
+
+-- ---- digits
+
+-- the last k digits of v, leading zeros too
+abbrev pub spelled : ℕ → ℕ → List ℕ
+spelled zero v = []
+spelled (suc i) v = (48 + v / 10 ^ i % 10) ∷ spelled i v
+
+spelled-last : (k v : ℕ) → spelled (suc k) v ≡ spelled k (v / 10) ++ ((48 + v % 10) ∷ [])
+spelled-last zero v = ap (λ (x : ℕ). (48 + x % 10) ∷ []) (div-one v)
+spelled-last (suc k) v =
+    let h : v / 10 ^ suc k ≡ v / 10 / 10 ^ k = ap (λ (x : ℕ). v / x) (pow-succ' 10 k) ∙ sym (div-div-eq-div-mul v 10 (10 ^ k)) in
+    ap (λ (x : ℕ). (48 + x % 10) ∷ spelled (suc k) v) h ∙ ap (λ (l : List ℕ). (48 + v / 10 / 10 ^ k % 10) ∷ l) (spelled-last k v)
+
+spelled-all : (f j v : ℕ) → j < f → v < 10 ^ suc j → (0 < j → 10 ^ j ≤ v) → lastDigits f v ≡ spelled (suc j) v
+spelled-all zero j v jf below above = absurd (not-suc-le-zero jf)
+spelled-all (suc f) zero v jf below above =
+    let h : v < 10 = below in
+    simp (lt-ltb v 10 h) (sym (spelled-last zero v))
+spelled-all (suc f) (suc j) v jf below above =
+    let up : 10 ^ j * 10 ≤ v = subst (λ (x : ℕ). x ≤ v) (pow-suc 10 j) (above (omega arith)) in
+    let one : 1 ≤ 10 ^ j = power-pos j in
+    let ten : 10 ≤ v = omega (arith, up, one) in
+    let rest = spelled-all f j (v / 10) (le-of-suc-le-suc jf) (div-lt-iff-lt-mul (omega arith) .1 (subst (λ (x : ℕ). v < x) (pow-suc 10 (suc j)) below)) (λ _. le-div-iff-mul-le (omega arith) .1 up) in
+    simp (le-ltb v 10 ten) (ap (λ (l : List ℕ). l ++ ((48 + v % 10) ∷ [])) rest ∙ sym (spelled-last (suc j) v))
+
+pub decimal-spelled : (v k : ℕ) → Digits v k → decimal v ≡ spelled k v
+decimal-spelled v zero d = absurd (not-suc-le-zero (d .0))
+decimal-spelled v (suc j) d =
+    let m : suc j - 1 ≡ j = omega arith in
+    spelled-all 10 j v (d .1) (d .2) (λ h. rw m at (d .3 (suc-le-suc h)))
+
+-- ---- a loop that writes
+
+-- a byte stored where the next one goes
+pub appended-byte : (out : List ℕ) (to b : ℕ) → to < length out → take (to + 1) (set out to b) ≡ take to out ++ (b ∷ [])
+appended-byte out to b lt = rw (add-one to) (take-suc-set out to b lt)
+
+-- the text s is written to `before` from `at` on, but for its last i digits, those of v, which come next, at `to`
+abbrev pub Spelling : List ℕ → ℕ → List ℕ → List ℕ → ℕ → ℕ → ℕ → Type 0
+Spelling before at s out v to i =
+    (length out ≡ length before) × (take to out ++ spelled i v ≡ take at before ++ s) × (to + i ≤ at + 10) × (i ≤ 10)
+
+pub spelling-starts : (before : List ℕ) (at v k : ℕ) → Digits v k → Spelling before at (decimal v) before v at k
+spelling-starts before at v k d = (refl, ap (λ (l : List ℕ). take at before ++ l) (sym (decimal-spelled v k d)), omega (arith, d .1), d .1)
+
+pub spelling-on : (before s out : List ℕ) (at v to i d : ℕ) → Spelling before at s out v to i → 0 < i → at + 10 ≤ length before
+    → d ≡ 48 + v / 10 ^ (i - 1) % 10 → Spelling before at s (set out to d) v (to + 1) (i - 1)
+spelling-on before s out at v to zero d h pos room e = absurd (not-suc-le-zero pos)
+spelling-on before s out at v to (suc i) d h pos room e =
+    let m : suc i - 1 ≡ i = omega arith in
+    let lt : to < length out = omega (arith, h .0, h .2, room) in
+    let e′ : d ≡ 48 + v / 10 ^ i % 10 = rw m at e in (
+      length-set out to d ∙ h .0,
+      rw m
+          (ap (λ (l : List ℕ). l ++ spelled i v) (appended-byte out to d lt)
+          ∙ append-snoc (take to out) d (spelled i v)
+          ∙ ap (λ (x : ℕ). take to out ++ (x ∷ spelled i v)) e′
+          ∙ h .1),
+      omega (arith, h .2),
+      omega (arith, h .3),
+    )
+
+pub spelling-ends : (before s out : List ℕ) (at v to i : ℕ) → Spelling before at s out v to i → i ≤ 0
+    → Appended before at out to s × (to ≤ at + 10)
+spelling-ends before s out at v to zero h le =
+    ((h .0, sym (append-nil (take to out)) ∙ h .1), omega (arith, h .2))
+spelling-ends before s out at v to (suc i) h le = absurd (not-suc-le-zero le)
+
+-- ---- a loop that counts digits
+
+-- v has k digits at least
+abbrev pub AtLeast : ℕ → ℕ → Type 0
+AtLeast v k = (1 ≤ k) × (k ≤ 10) × (1 < k → 10 ^ (k - 1) ≤ v)
+
+pub counted-on : (k v x : ℕ) → AtLeast v k → k < 10 → x ≡ 10 ^ k → leb x v ≡ true → AtLeast v (k + 1)
+counted-on k v x inv lt e le =
+    let m : k + 1 - 1 ≡ k = omega arith in
+    (omega arith, omega arith, λ _. rw m (subst (λ (y : ℕ). y ≤ v) e (leb-true x v le)))
+
+pub counted : (k v x : ℕ) → AtLeast v k → x ≡ 10 ^ k → leb x v ≡ false → Digits v k
+counted k v x inv e lt = (inv .0, inv .1, subst (λ (y : ℕ). v < y) e (leb-false x v lt), inv .2)
+
+-- no number of 32 bits has more than ten
+pub counted-ten : (k v : ℕ) → AtLeast v k → 10 ≤ k → v < 4294967296 → Digits v k
+counted-ten k v inv ge lt =
+    let k10 : k ≡ 10 = omega (arith, ge, inv .1) in
+    let big : v < 10000000000 = omega (arith, lt) in
+    (inv .0, inv .1, subst (λ (j : ℕ). v < 10 ^ j) (sym k10) big, inv .2)

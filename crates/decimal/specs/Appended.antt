@@ -1,0 +1,13 @@
+-- What the functions that write text promise.
+use mathlib.Core.Path.{_≡_}
+use mathlib.Core.List.{List, _++_}
+use Prim.Native.Nat.{ℕ, _-_, _^_, _≤_, _<_}
+use lib.ListN.{length, take}
+
+-- the text s is written to `before` from `at` on: `after`, in which the next byte goes to r
+abbrev pub Appended : List ℕ → ℕ → List ℕ → ℕ → List ℕ → Type 0
+Appended before at after r s = (length after ≡ length before) × (take r after ≡ take at before ++ s)
+
+-- v has k digits, up to ten, and 0 has one
+abbrev pub Digits : ℕ → ℕ → Type 0
+Digits v k = (1 ≤ k) × (k ≤ 10) × (v < 10 ^ k) × (1 < k → 10 ^ (k - 1) ≤ v)
