@@ -4,14 +4,14 @@ use mathlib.Core.Bool.{Bool, true, false, cond, _&&_}
 use mathlib.Core.List.{List, [], _∷_, _++_, append-nil, append-assoc}
 use Prim.Native.Nat.{ℕ, zero, suc, _+_, _-_, _*_, _/_, _%_, _^_, _≤_, _<_, suc-le-suc}
 use native.Mathlib.Omega.{arith}
-use native.Mathlib.Numerals.{add-one}
 use native.Mathlib.Nat.{pow-suc, pow-succ', div-div-eq-div-mul, div-lt-iff-lt-mul, le-div-iff-mul-le, div-one, pow-le-pow-right, not-suc-le-zero, le-of-suc-le-suc, zero-add, add-zero, suc-add, add-suc}
 use lib.Dec.{T, leb, eqb, ltb, eqb→eq}
 use lib.ListN.{length, getD, take, set, length-set}
-use lib.Seq.{take-suc-set, append-snoc}
+use lib.Seq.{append-snoc}
 use borrow.Author.Tests.{lt-ltb, le-ltb, leb-true, leb-false}
 use Rattle.rules.specs.Text.{decimal, lastDigits}
 use Rattle.decimal.specs.Appended.{Appended, Digits}
+use Rattle.decimal.proofs.Texts.{appended-byte}
 
 -- ---- the table
 
@@ -81,10 +81,6 @@ decimal-spelled v (suc j) d =
 
 -- ---- a loop that writes
 
--- a byte stored where the next one goes
-pub appended-byte : (out : List ℕ) (to b : ℕ) → to < length out → take (to + 1) (set out to b) ≡ take to out ++ (b ∷ [])
-appended-byte out to b lt = rw (add-one to) (take-suc-set out to b lt)
-
 -- the text s is written to `before` from `at` on, but for its last i digits, those of v, which come next, at `to`
 abbrev pub Spelling : List ℕ → ℕ → List ℕ → List ℕ → ℕ → ℕ → ℕ → Type 0
 Spelling before at s out v to i =
@@ -102,7 +98,7 @@ spelling-on before s out at v to (suc i) d h pos room e =
     let e′ : d ≡ 48 + v / 10 ^ i % 10 = rw m at e in (
       length-set out to d ∙ h .0,
       rw m
-          (ap (λ (l : List ℕ). l ++ spelled i v) (appended-byte out to d lt)
+          (ap (λ (l : List ℕ). l ++ spelled i v) ((appended-byte out to d lt) .text)
           ∙ append-snoc (take to out) d (spelled i v)
           ∙ ap (λ (x : ℕ). take to out ++ (x ∷ spelled i v)) e′
           ∙ h .1),
@@ -113,7 +109,7 @@ spelling-on before s out at v to (suc i) d h pos room e =
 pub spelling-ends : (before s out : List ℕ) (at v to i : ℕ) → Spelling before at s out v to i → i ≤ 0
     → Appended before at out to s × (to ≤ at + 10)
 spelling-ends before s out at v to zero h le =
-    ((h .0, sym (append-nil (take to out)) ∙ h .1), omega (arith, h .2))
+    (record { room = h .0; text = sym (append-nil (take to out)) ∙ h .1 }, omega (arith, h .2))
 spelling-ends before s out at v to (suc i) h le = absurd (not-suc-le-zero le)
 
 -- ---- a loop that counts digits

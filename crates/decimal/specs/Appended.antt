@@ -5,8 +5,9 @@ use Prim.Native.Nat.{ℕ, _-_, _^_, _≤_, _<_}
 use lib.ListN.{length, take}
 
 -- the text s is written to `before` from `at` on: `after`, in which the next byte goes to r
-abbrev pub Appended : List ℕ → ℕ → List ℕ → ℕ → List ℕ → Type 0
-Appended before at after r s = (length after ≡ length before) × (take r after ≡ take at before ++ s)
+pub record Appended (before : List ℕ) (at : ℕ) (after : List ℕ) (r : ℕ) (s : List ℕ) : Type 0 where
+  pub room : length after ≡ length before
+  pub text : take r after ≡ take at before ++ s
 
 -- v has k digits, up to ten, and 0 has one
 abbrev pub Digits : ℕ → ℕ → Type 0

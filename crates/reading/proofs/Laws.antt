@@ -82,11 +82,12 @@ valued-on s v i h lt d =
     let most : b ≤ 57 = leb-true b 57 (both .1) in
     let next = drop-next s i lt in
     let up : 10 ^ (i + 1) ≡ 10 ^ i * 10 = ap (λ (m : ℕ). 10 ^ m) (add-one i) ∙ pow-suc 10 i in
-    let below : 10 * v + (b - 48) < 10 ^ i * 10 = omega (arith, h .3, most) in
-    (omega arith,
-    h .1 ∙ ap digits next ∙ ap (λ (a : Bool). a && digits (drop (i + 1) s)) d,
-    h .2 ∙ ap (valueFrom v) next,
-    rw up below)
+    let below : 10 * v + (b - 48) < 10 ^ i * 10 = omega (arith, h .3, most) in (
+      omega arith,
+      h .1 ∙ ap digits next ∙ ap (λ (a : Bool). a && digits (drop (i + 1) s)) d,
+      h .2 ∙ ap (valueFrom v) next,
+      rw up below,
+    )
 
 pub digit-bounds : (b : ℕ) {r : Bool} → r ≡ digit b → r ≡ true → (48 ≤ b) × (b ≤ 57)
 digit-bounds b e d =
@@ -159,35 +160,38 @@ comma-next s from i h lt =
     let inside : d < length (drop from s) = omega (arith, length-drop from s, lt, h .0) in
     let byte : getD (drop from s) d 0 ≡ getD s i 0 = getD-drop from s d 0 ∙ ap (λ (m : ℕ). getD s m 0) back in
     let held : take d (drop from s) ++ (getD s i 0 ∷ []) ≡ take (i + 1 - from) (drop from s) =
-        ap (λ (b : ℕ). take d (drop from s) ++ (b ∷ [])) (sym byte) ∙ sym (take-suc (drop from s) d 0 inside) ∙ ap (λ (m : ℕ). take m (drop from s)) (sym more) in
+    ap (λ (b : ℕ). take d (drop from s) ++ (b ∷ [])) (sym byte) ∙ sym (take-suc (drop from s) d 0 inside) ∙ ap (λ (m : ℕ). take m (drop from s)) (sym more) in
     h .2
     ∙ ap (fieldsFrom (take d (drop from s))) (drop-next s i lt)
     ∙ ap (λ (l : List ℕ). cond (eqb (getD s i 0) 44) (take d (drop from s) ∷ fieldsFrom [] (drop (i + 1) s)) (fieldsFrom l (drop (i + 1) s))) held
 
 pub no-comma-on : (s : List ℕ) (from i : ℕ) → NoComma s from i → i < length s → (getD s i 0 ≡ 44 → ⊥) → NoComma s from (i + 1)
-no-comma-on s from i h lt ne =
-    (omega (arith, h .0),
-    omega arith,
-    comma-next s from i h lt
-    ∙ ap (λ (a : Bool). cond a (take (i - from) (drop from s) ∷ fieldsFrom [] (drop (i + 1) s)) (fieldsFrom (take (i + 1 - from) (drop from s)) (drop (i + 1) s))) (ne-eqb _ _ ne))
+no-comma-on s from i h lt ne = (
+  omega (arith, h .0),
+  omega arith,
+  comma-next s from i h lt
+      ∙ ap (λ (a : Bool). cond a (take (i - from) (drop from s) ∷ fieldsFrom [] (drop (i + 1) s)) (fieldsFrom (take (i + 1 - from) (drop from s)) (drop (i + 1) s))) (ne-eqb _ _ ne),
+)
 
 pub comma-found : (s : List ℕ) (from i : ℕ) → NoComma s from i → i < length s → getD s i 0 ≡ 44 → Ends s from i
-comma-found s from i h lt e =
-    (h .0,
-    h .1,
-    comma-next s from i h lt
-    ∙ ap (λ (a : Bool). cond a (take (i - from) (drop from s) ∷ fieldsFrom [] (drop (i + 1) s)) (fieldsFrom (take (i + 1 - from) (drop from s)) (drop (i + 1) s))) (eq-eqb _ _ e)
-    ∙ ap (λ (a : Bool). cond a (take (i - from) (drop from s) ∷ fieldsFrom [] (drop (i + 1) s)) (drop from s ∷ [])) (sym (lt-ltb i (length s) lt)))
+comma-found s from i h lt e = (
+  h .0,
+  h .1,
+  comma-next s from i h lt
+      ∙ ap (λ (a : Bool). cond a (take (i - from) (drop from s) ∷ fieldsFrom [] (drop (i + 1) s)) (fieldsFrom (take (i + 1 - from) (drop from s)) (drop (i + 1) s))) (eq-eqb _ _ e)
+      ∙ ap (λ (a : Bool). cond a (take (i - from) (drop from s) ∷ fieldsFrom [] (drop (i + 1) s)) (drop from s ∷ [])) (sym (lt-ltb i (length s) lt)),
+)
 
 pub line-found : (s : List ℕ) (from i : ℕ) → NoComma s from i → length s ≤ i → Ends s from i
 line-found s from i h le =
-    let short : length (drop from s) ≤ i - from = omega (arith, length-drop from s, le, h .0, h .1) in
-    (h .0,
-    h .1,
-    h .2
-    ∙ ap (fieldsFrom (take (i - from) (drop from s))) (drop-of-length-le s le)
-    ∙ ap (λ (l : List ℕ). l ∷ []) (take-all (i - from) (drop from s) short)
-    ∙ ap (λ (a : Bool). cond a (take (i - from) (drop from s) ∷ fieldsFrom [] (drop (i + 1) s)) (drop from s ∷ [])) (sym (le-ltb i (length s) le)))
+    let short : length (drop from s) ≤ i - from = omega (arith, length-drop from s, le, h .0, h .1) in (
+      h .0,
+      h .1,
+      h .2
+          ∙ ap (fieldsFrom (take (i - from) (drop from s))) (drop-of-length-le s le)
+          ∙ ap (λ (l : List ℕ). l ∷ []) (take-all (i - from) (drop from s) short)
+          ∙ ap (λ (a : Bool). cond a (take (i - from) (drop from s) ∷ fieldsFrom [] (drop (i + 1) s)) (drop from s ∷ [])) (sym (le-ltb i (length s) le)),
+    )
 
 pub some-length : (s : List ℕ) → (length s ≡ 0 → ⊥) → 0 < length s
 some-length [] ne = absurd (ne refl)
@@ -340,9 +344,9 @@ unfolding readLine
 four-fields s a b c d le h ne k nf l nc m e =
     let last : drop (c + 1) s ≡ take (length s - (c + 1)) (drop (c + 1) s) = sym (take-all (length s - (c + 1)) (drop (c + 1) s) (omega (arith, length-drop (c + 1) s))) in
     let whole =
-        three-commas s a b c h ne k nf l nc
-        ∙ ap (λ (x : List (List ℕ)). take a s ∷ take (b - (a + 1)) (drop (a + 1) s) ∷ take (c - (b + 1)) (drop (b + 1) s) ∷ x)
-        (line-cut s (c + 1) d m e ∙ ap (λ (x : List ℕ). x ∷ []) last) in
+    three-commas s a b c h ne k nf l nc
+    ∙ ap (λ (x : List (List ℕ)). take a s ∷ take (b - (a + 1)) (drop (a + 1) s) ∷ take (c - (b + 1)) (drop (b + 1) s) ∷ x)
+    (line-cut s (c + 1) d m e ∙ ap (λ (x : List ℕ). x ∷ []) last) in
     sym
     (ap (λ (x : Bool). cond (x && eqb (length (fieldsFrom [] s)) 4) (saidBy (fieldsFrom [] s)) unreadable) (le-leb (length s) 64 le)
     ∙ ap (λ (x : List (List ℕ)). cond (eqb (length x) 4) (saidBy x) unreadable) whole)

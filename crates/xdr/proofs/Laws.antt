@@ -7,8 +7,8 @@ use native.Mathlib.Nat.{zero-add, add-zero, not-suc-le-zero, le-of-suc-le-suc, d
 use native.Mathlib.Numerals.{add-one}
 use native.Mathlib.Omega.{arith}
 use native.Mathlib.Decide.{decLt}
-use lib.ListN.{length, getD, set, length-set}
-use lib.Seq.{getD-set-same, getD-set-other}
+use lib.ListN.{length, getD, set, take, drop, length-set, length-drop}
+use lib.Seq.{getD-set-same, getD-set-other, drop-cons}
 use Rattle.xdr.specs.Words.{word, bytes, words, putWord, putWords, putEach}
 
 -- ---- words as bytes
@@ -280,3 +280,41 @@ each-put t ws f p b s n l e =
     (λ i lt.
     let m : i < p = omega arith in
     each-at t f p (omega arith) i m (subst (λ (v : ℕ). v < 4294967296) (sym (e i m)) (small-at ws s i lt)) ∙ e i m)
+
+-- ---- the first words of bytes
+
+four-more : (k : ℕ) → 4 * suc k ≡ suc (suc (suc (suc (4 * k))))
+four-more k = omega arith
+
+-- bytes of at least one word begin with four
+four-bytes : (k : ℕ) (s : List ℕ) → 4 * suc k ≤ length s → s ≡ getD s 0 0 ∷ getD s 1 0 ∷ getD s 2 0 ∷ getD s 3 0 ∷ drop 4 s
+four-bytes k s le =
+    drop-cons s 0 0 (omega arith)
+    ∙ ap (λ (l : List ℕ). getD s 0 0 ∷ l)
+    (drop-cons s 1 0 (omega arith)
+    ∙ ap (λ (l : List ℕ). getD s 1 0 ∷ l)
+    (drop-cons s 2 0 (omega arith) ∙ ap (λ (l : List ℕ). getD s 2 0 ∷ l) (drop-cons s 3 0 (omega arith))))
+
+pub words-length : (k : ℕ) (s : List ℕ) → 4 * k ≤ length s → length (words (take (4 * k) s)) ≡ k
+words-length zero s le = refl
+words-length (suc k) s le =
+    let rest : 4 * k ≤ length (drop 4 s) = omega (arith, length-drop 4 s) in
+    subst (λ (l : List ℕ). length (words (take (4 * suc k) l)) ≡ suc k) (sym (four-bytes k s le))
+    (rw (four-more k) (ap suc (words-length k (drop 4 s) rest)))
+
+next-word : (a b c d : ℕ) (s : List ℕ) (k i : ℕ) → i < suc k → ((j : ℕ) → j < k → getD (words (take (4 * k) s)) j 0 ≡ word s j)
+    → getD (words (take (4 * suc k) (a ∷ b ∷ c ∷ d ∷ s))) i 0 ≡ word (a ∷ b ∷ c ∷ d ∷ s) i
+unfolding word
+next-word a b c d s k zero lt h = rw (four-more k) refl
+next-word a b c d s k (suc i) lt h =
+    let e : 4 * suc i + 1 ≡ suc (suc (suc (suc (4 * i + 1)))) = omega arith in
+    let f : 4 * suc i + 2 ≡ suc (suc (suc (suc (4 * i + 2)))) = omega arith in
+    let g : 4 * suc i + 3 ≡ suc (suc (suc (suc (4 * i + 3)))) = omega arith in
+    rw (four-more k, e, f, g, four-more i) (h i (le-of-suc-le-suc lt))
+
+pub words-get : (k : ℕ) (s : List ℕ) (i : ℕ) → 4 * k ≤ length s → i < k → getD (words (take (4 * k) s)) i 0 ≡ word s i
+words-get zero s i le lt = absurd (not-suc-le-zero lt)
+words-get (suc k) s i le lt =
+    let rest : 4 * k ≤ length (drop 4 s) = omega (arith, length-drop 4 s) in
+    subst (λ (l : List ℕ). getD (words (take (4 * suc k) l)) i 0 ≡ word l i) (sym (four-bytes k s le))
+    (next-word _ _ _ _ (drop 4 s) k i lt (λ j. words-get k (drop 4 s) j rest))

@@ -287,9 +287,58 @@ fn an_unreadable_line_at_the_end_may_lack_cr_lf_too() {
     }
 }
 
+/// A fresh with something wrong, to be the first line: a later one gives 99 with nothing wrong as well.
+const UNREADABLE_FRESH: &[&[u8]] = &[
+    b"fresh",
+    b"fresh,1",
+    b"fresh,1,2",
+    b"fresh,1,2,,",
+    b"fresh1,2,,",
+    b"fres,1,2,",
+    b"freshh,1,2,",
+    b"Fresh,1,2,",
+    b"FRESH,1,2,",
+    b" fresh,1,2,",
+    b"fresh ,1,2,",
+    b"fresh, 1,2,",
+    b"fresh,1, 2,",
+    b"fresh,1,2, ",
+    b"fresh,1,2,\t",
+    b"\"fresh\",1,2,",
+    b"fresh,\"1\",2,",
+    b"fresh,1,2,\"\"",
+    b"fresh,+1,2,",
+    b"fresh,1,-2,",
+    b"fresh,,2,",
+    b"fresh,1,,",
+    b"fresh,,,",
+    b"fresh,1,2,0",
+    b"fresh,1,2,3",
+    b"fresh,1,2,x",
+    b"fresh,00000000001,2,",
+    b"fresh,1,00000000002,",
+    b"fresh,4294967297,2,",
+    b"fresh,1,4294967298,",
+    b"fresh,9999999999,9999999999,",
+    b"\x00fresh,1,2,",
+    b"fresh,1\x00,2,",
+    b"fresh,1,2,\x00",
+    b"\xEF\xBB\xBFfresh,1,2,",
+    b"\xE6resh,1,2,",
+    b"fresh,\xB1,2,",
+    b"fresh,1,2\xAC",
+    b"\nfresh,1,2,",
+    b"fresh,1,2,\n",
+    b"fresh,1,2,\nline,0,,",
+    b"\rfresh,1,2,",
+    b"fresh,1,2,\r",
+    b"fresh,1,2,\rline,0,,",
+    b"fresh,1,2,\n\r",
+];
+
 #[test]
 fn an_unreadable_first_line_gives_99_alone_and_ends_the_program() {
-    for line in UNREADABLE {
+    for line in UNREADABLE.iter().chain(UNREADABLE_FRESH) {
         check(line, b"99\r\n");
         check(&[line, END].concat(), b"99\r\n");
         check(&[line, b"\r\nfresh,1,2,\r\ncheckpoint,0,,\r\n" as &[u8]].concat(), b"99\r\n");
@@ -677,7 +726,7 @@ fn first_line(rng: &mut Rng, n: u32, e: u32) -> Vec<u8> {
     match rng.below(24) {
         0 => any.text().into_bytes(),
         1 => wide.text().into_bytes(),
-        2 => rng.pick(UNREADABLE).to_vec(),
+        2 => rng.pick(UNREADABLE_FRESH).to_vec(),
         _ => Call::Fresh { n, e }.text().into_bytes(),
     }
 }
@@ -798,11 +847,16 @@ fn drawn_inputs_beside_the_reference() {
 #[test]
 fn a_megabyte_of_calls_that_fill_the_largest_table() {
     let origin = Origin { test: "a megabyte of calls", seed: seed(), case: 0 };
-    let input = texts::run(&mut origin.rng(), 8, 256, MEGABYTE);
+    let mut input = texts::run(&mut origin.rng(), 8, 256, MEGABYTE);
+    input.extend(b"failed,0,,\r\n");
     let output = String::from_utf8(check_beside(&input, origin)).unwrap();
-    let with = |number: &str| output.split_terminator("\r\n").filter(|line| line.starts_with(number)).count();
+    let lines: Vec<&str> = output.split_terminator("\r\n").collect();
+    let with = |number: &str| lines.iter().filter(|line| line.starts_with(number)).count();
     println!("a megabyte of calls: {} accepted, {} without free records", with("0,"), with("9,"));
     assert!(with("0,") > 2_000 && with("9,") > 2_000 && with("99,") == 0);
+    // No process is left with room for a receipt that forces.
+    let counts = lines.last().unwrap().split(',').skip(1).take(8).map(|field| field.parse::<u32>().unwrap());
+    assert!(counts.min() >= Some(255), "{:?}", lines.last());
 }
 
 #[test]

@@ -1,0 +1,114 @@
+// The calls of the text program and the lines that it writes (document 01).
+ghost use mathlib.Core.Path.{_≡_};
+ghost use mathlib.Core.Bool.{cond};
+ghost use mathlib.Core.List.{_++_};
+ghost use Prim.Native.Nat.{_+_, _*_, _≤_};
+ghost use lib.Dec.{eqb};
+ghost use lib.ListN.{length, replicate};
+ghost use Rattle.rules.specs.Text.{decimal, furtherFields, lineEnd, aloneLine, ran as ranOf};
+ghost use Rattle.decimal.specs.Appended.{Appended};
+ghost use Rattle.reading.specs.Meanings.{readingOf};
+ghost use Rattle.answers.specs.Shows.{Shows, fieldOr, shown};
+use reading::Call;
+
+// A returned number, and how many words of the area are answered.
+pub struct Ran {
+    pub returned: u32,
+    pub count: usize,
+}
+
+// A refused call answers no words.
+fn told(returned: u32, count: usize) -> Ran
+    ensures { λ r. ⌜ (r .returned ≡ returned) × (r .count ≡ cond (eqb returned 0) count 0) ⌝ }
+{
+    if returned == 0 {
+        return Ran {
+            returned: returned,
+            count: count,
+        };
+    }
+    Ran {
+        returned: returned,
+        count: 0,
+    }
+}
+
+// Runs a line's call on a table of n processes. The area is ten words, all 0: as many as a failure line of eight processes has.
+pub fn run(call: Call, n: usize, table: &mut [u8], area: &mut [u8]) -> Ran
+    requires { ⌜ (n ≤ 8) × (now area ≡ replicate 40 0) ⌝ }
+    ensures { λ r. ⌜ Shows (ranOf n (now (table .entry)) (readingOf call)) r (now (table .exit)) (now (area .exit)) ⌝ }
+{
+    match call {
+        Call::Fresh { n: _, e: _ } => told(99, 0),
+        Call::Checkpoint { p } => told(engine::ckpt_checkpoint(table, &mut area[..4], p), 1),
+        Call::Send { p, q } => told(engine::ckpt_send(table, &mut area[..8], p, q), 2),
+        Call::Receipt { p, q, k } => told(engine::ckpt_receipt(table, &mut area[..8], p, q, k), 2),
+        Call::Line { number } => {
+            let bytes = 4 * n;
+            told(engine::ckpt_line(&table[..], &mut area[..bytes], number), n)
+        },
+        Call::Failed { mask } => {
+            let bytes = 4 * n + 8;
+            told(
+                engine::ckpt_failed(&table[..], &mut area[..bytes], mask),
+                n + 2,
+            )
+        },
+        Call::Unreadable => told(99, 0),
+    }
+}
+
+// Writes a comma and field i of the answer: word i of the area if there are as many, else nothing.
+fn put_field(out: &mut [u8], at: usize, area: &[u8], count: usize, i: usize) -> usize
+    requires { ⌜ (at + 11 ≤ length (now out)) × (4 * count ≤ length (now area)) ⌝ }
+    ensures { λ r. ⌜ Appended (now (out .entry)) at (now (out .exit)) r (fieldOr count (now (area .entry)) i) × (r ≤ at + 11) ⌝ }
+{
+    out[at] = 44;
+    if i < count {
+        return decimal::put(out, at + 1, xdr::get(area, i));
+    }
+    at + 1
+}
+
+// Writes k fields, each after a comma, the first of them the first `count` words of the area.
+fn put_fields(out: &mut [u8], at: usize, area: &[u8], count: usize, k: usize) -> usize
+    requires { ⌜ (k ≤ 10) × (at + 110 ≤ length (now out)) × (4 * count ≤ length (now area)) ⌝ }
+    ensures { λ r. ⌜ Appended (now (out .entry)) at (now (out .exit)) r (furtherFields k (shown count (now (area .entry)))) × (r ≤ at + 110) ⌝ }
+{
+    let mut to = at;
+    let mut i: usize = 0;
+    while i < k {
+        to = put_field(out, to, area, count, i);
+        i += 1;
+    }
+    to
+}
+
+fn put_end(out: &mut [u8], at: usize) -> usize
+    requires { ⌜ at + 2 ≤ length (now out) ⌝ }
+    ensures { λ r. ⌜ Appended (now (out .entry)) at (now (out .exit)) r lineEnd × (r ≤ at + 2) ⌝ }
+{
+    out[at] = 13;
+    out[at + 1] = 10;
+    at + 2
+}
+
+// Writes a line of n + 3 fields: the returned number, then the words answered.
+pub fn put_answer(out: &mut [u8], at: usize, n: usize, r: Ran, area: &[u8]) -> usize
+    requires { ⌜ (n ≤ 8) × (at + 128 ≤ length (now out)) × (4 * r .count ≤ length (now area)) ⌝ }
+    ensures { λ x. ⌜ Appended (now (out .entry)) at (now (out .exit)) x (decimal (r .returned) ++ furtherFields (n + 2) (shown (r .count) (now (area .entry))) ++ lineEnd) × (x ≤ at + 128) ⌝ }
+{
+    let count = r.count;
+    let a = decimal::put(out, at, r.returned);
+    let b = put_fields(out, a, area, count, n + 2);
+    put_end(out, b)
+}
+
+// Writes a line of the one field v.
+pub fn put_alone(out: &mut [u8], at: usize, v: u32) -> usize
+    requires { ⌜ at + 128 ≤ length (now out) ⌝ }
+    ensures { λ r. ⌜ Appended (now (out .entry)) at (now (out .exit)) r (aloneLine v) × (r ≤ at + 128) ⌝ }
+{
+    let a = decimal::put(out, at, v);
+    put_end(out, a)
+}
