@@ -109,25 +109,27 @@ pub written-on : (before : List ℕ) (at : ℕ) (out out₁ : List ℕ) (to x co
     → Appended out to out₁ x (fieldOr count area i) × (x ≤ to + 11) → Written before at out₁ x (shown count area) k (i + 1)
 written-on before at out out₁ to x count area k i h lt le put =
     let vs = shown count area in
-    let m : k - i ≡ suc (k - (i + 1)) = omega (arith, lt) in
-    (omega (arith, lt),
-    put .0 .room ∙ h .1,
-    ap (λ (l : List ℕ). l ++ furtherFields (k - (i + 1)) (drop (i + 1) vs)) (put .0 .text)
-    ∙ append-assoc (take to out) (fieldOr count area i) (furtherFields (k - (i + 1)) (drop (i + 1) vs))
-    ∙ ap (λ (l : List ℕ). take to out ++ l) (sym (field-next count area i (k - (i + 1)) (ltb i count) refl le))
-    ∙ ap (λ (j : ℕ). take to out ++ furtherFields j (drop i vs)) (sym m)
-    ∙ h .2,
-    omega (arith, h .3, put .1))
+    let m : k - i ≡ suc (k - (i + 1)) = omega (arith, lt) in (
+      omega (arith, lt),
+      put .0 .room ∙ h .1,
+      ap (λ (l : List ℕ). l ++ furtherFields (k - (i + 1)) (drop (i + 1) vs)) (put .0 .text)
+          ∙ append-assoc (take to out) (fieldOr count area i) (furtherFields (k - (i + 1)) (drop (i + 1) vs))
+          ∙ ap (λ (l : List ℕ). take to out ++ l) (sym (field-next count area i (k - (i + 1)) (ltb i count) refl le))
+          ∙ ap (λ (j : ℕ). take to out ++ furtherFields j (drop i vs)) (sym m)
+          ∙ h .2,
+      omega (arith, h .3, put .1),
+    )
 
 pub written-all : (before : List ℕ) (at : ℕ) (out : List ℕ) (to : ℕ) (vs : List ℕ) (k i : ℕ) → Written before at out to vs k i → k ≤ i → k ≤ 10
     → Appended before at out to (furtherFields k vs) × (to ≤ at + 110)
 written-all before at out to vs k i h ge ten =
-    let none : k - i ≡ 0 = omega (arith, ge) in
-    (record {
-      room = h .1;
-      text = sym (append-nil (take to out)) ∙ ap (λ (j : ℕ). take to out ++ furtherFields j (drop i vs)) (sym none) ∙ h .2;
-    },
-    omega (arith, h .3, h .0, ten))
+    let none : k - i ≡ 0 = omega (arith, ge) in (
+      record {
+        room = h .1;
+        text = sym (append-nil (take to out)) ∙ ap (λ (j : ℕ). take to out ++ furtherFields j (drop i vs)) (sym none) ∙ h .2;
+      },
+      omega (arith, h .3, h .0, ten),
+    )
 
 -- a field in its place
 pub field-word : {out out₁ : List ℕ} {at x : ℕ} (count : ℕ) (area : List ℕ) (i : ℕ) → i < count → Appended out at out₁ x (44 ∷ decimal (word area i))

@@ -198,10 +198,13 @@ pub record Reply : Type 0 where
 abbrev pub reply : List ℕ → Stage → Reply
 reply s g = record { text = s; stage = g }
 
+-- a first fresh within the program's range
+abbrev pub began : ℕ → ℕ → Reply
+began n E = reply (answerLine n (begun n E)) (running n (begun n E .table))
+
 -- the first line
 abbrev pub opened : Reading → Reply
-opened (call (fresh n E)) =
-    cond (inProgramRange n E) (reply (answerLine n (begun n E)) (running n (begun n E .table))) (reply (aloneLine 1) ended)
+opened (call (fresh n E)) = cond (inProgramRange n E) (began n E) (reply (aloneLine 1) ended)
 opened (call (step p c)) = reply (aloneLine 99) ended
 opened (call (line N)) = reply (aloneLine 99) ended
 opened (call (failed mask)) = reply (aloneLine 99) ended

@@ -1,37 +1,51 @@
--- What the functions of the text program promise, in terms of document 01's definitions.
+-- What the functions of the text program promise, by document 01's definitions.
 use mathlib.Core.Path.{_≡_}
-use mathlib.Core.List.{List, [], _∷_, _++_}
+use mathlib.Core.List.{List, _++_}
 use Prim.Native.Nat.{ℕ, _+_, _*_, _≤_}
 use lib.ListN.{length, take}
-use Rattle.xdr.specs.Words.{words}
-use Rattle.rules.specs.Calls.{Outcome, answerWords}
 use Rattle.rules.specs.Text as text
+use Rattle.decimal.specs.Appended.{Appended}
 use Rattle.text.specs.declared.Stage.{Stage}
 use Rattle.text.specs.declared.Stage.the-variants.{Waiting, Running, Ended}
 use Rattle.text.specs.declared.Session.{Session}
-use Rattle.text.specs.declared.Ran.{Ran}
+use Rattle.text.specs.declared.Reply.{Reply}
 
--- the stage of document 01, where the table stands in the first bytes of a room
+-- document 01's stage, where the table stands in the first bytes of a room
 abbrev pub stageOf : Stage → List ℕ → text.Stage
 stageOf Waiting room = text.waiting
 stageOf (Running n size) room = text.running n (take size room)
 stageOf Ended room = text.ended
 
--- a table lies in its room
+-- a table lies in the room, which is that of the largest table that the program takes
+abbrev pub Within : Stage → Type 0
+Within Waiting = Unit {0}
+Within (Running n size) = (n ≤ 8) × (size ≤ 24680)
+Within Ended = Unit {0}
+
 abbrev pub Fits : Stage → List ℕ → Type 0
-Fits Waiting room = Unit {0}
-Fits (Running n size) room = (n ≤ 8) × (size ≤ length room)
-Fits Ended room = Unit {0}
+Fits g room = (length room ≡ 24680) × Within g
 
--- the room is that of the largest table that the program takes
-abbrev pub Ready : Stage → List ℕ → Type 0
-Ready g room = (length room ≡ 24680) × Fits g room
+-- ---- one line
 
--- r and the area tell the number and the words of an outcome; its table is left
-abbrev pub Shows : Outcome → Ran → List ℕ → List ℕ → Type 0
-Shows o r table area =
-    (r .returned ≡ o .returned) × (table ≡ o .table) × (words (take (4 * r .count) area) ≡ answerWords o) × (4 * r .count ≤ length area)
+-- r is document 01's reply `want`: its text is written to `before` from `at` on, which leaves `out`, and `room` holds its table
+pub record Replies (want : text.Reply) (r : Reply) (before : List ℕ) (at : ℕ) (out : List ℕ) (room : List ℕ) : Type 0 where
+  pub text : Appended before at out (r .written) (want .text)
+  pub stage : stageOf (r .stage) room ≡ want .stage
+  pub fits : Fits (r .stage) room
+  pub most : r .written ≤ at + 128
+
+-- ---- the input
 
 -- what is still to be written, when x is the rest of the input
 abbrev pub owedBy : Session → List ℕ → List ℕ → List ℕ → List ℕ
 owedBy s line room x = text.answers (stageOf (s .stage) room) (text.linesFrom (take (s .held) line) x)
+
+abbrev pub Ready : Session → List ℕ → List ℕ → Type 0
+Ready s line room = (s .held ≤ 66) × (length line ≡ 66) × Fits (s .stage) room
+
+-- the session s took the bytes `fed` and became r: whatever the rest of the input is, what was written and what is owed stay the same
+pub record Took (s : Session) (line : List ℕ) (room : List ℕ) (out : List ℕ) (fed : List ℕ) (r : Session) (line′ : List ℕ) (room′ : List ℕ) (out′ : List ℕ) : Type 0 where
+  pub total : (x : List ℕ) → take (s .written) out ++ owedBy s line room (fed ++ x) ≡ take (r .written) out′ ++ owedBy r line′ room′ x
+  pub ready : Ready r line′ room′
+  pub most : r .written ≤ s .written + 128 * length fed
+  pub size : length out′ ≡ length out

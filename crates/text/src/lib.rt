@@ -1,66 +1,212 @@
 // The text program as functions on bytes (document 01).
 //
-// A session is fed the input chunk by chunk, cut anywhere, and says after each chunk how many bytes it has written.
+// A session is fed the input chunk by chunk, cut anywhere. What it has written and what it still owes make up `textOutput` of the whole.
 ghost use mathlib.Core.Path.{_≡_};
-ghost use mathlib.Core.Bool.{cond, _&&_};
+ghost use mathlib.Core.Bool.{true, _&&_};
 ghost use mathlib.Core.List.{List, [], _∷_, _++_};
-ghost use Prim.Native.Nat.{ℕ, _+_, _*_, _≤_, _<_};
+ghost use Prim.Native.Nat.{ℕ, _+_, _*_, _≤_};
 ghost use lib.Dec.{eqb};
-ghost use lib.ListN.{length, take, drop, replicate};
-ghost use Rattle.xdr.specs.Words.{words};
-ghost use Rattle.rules.specs.Text.{aloneLine, furtherFields, answerLine, begun, endsInCR, lineEnd, opened, ran as ranOf, replied, readLine, textOutput};
+ghost use lib.ListN.{length, take};
+ghost use Rattle.rules.specs.Text.{aloneLine, inProgramRange, endsInCR, began, opened, running, replied, readLine, textOutput};
 ghost use Rattle.decimal.specs.Appended.{Appended};
 ghost use Rattle.reading.specs.Meanings.{readingOf};
-ghost use Rattle.text.specs.Session.{Shows};
+ghost use Rattle.text.specs.Session.{Fits, Replies, Ready, Took, stageOf, owedBy};
 use reading::Call;
 
-// Where the program stands: before its first line, with a table of n processes in the first `size` bytes of its room, or at its end.
+// Where the program stands: before its first line, with a table of n processes in the first bytes of its room, or at its end.
 pub enum Stage {
     Waiting,
     Running { n: usize, size: usize },
     Ended,
 }
 
-// How many bytes of the line that has not ended are held, where the program stands, and how many bytes it has written. Of a line of 66
-// bytes and more the first 65 are held and the last: enough to know that it is too long and whether it ends in CR.
+// How many bytes are held of the line that has not ended, where the program stands, and how many bytes are written. Of a line of 66
+// bytes and more the first 65 are held and the last: enough to know that it is too long, and whether it ends in CR.
 pub struct Session {
     pub held: usize,
     pub stage: Stage,
     pub written: usize,
 }
 
-// ---- calls
-
-// A returned number, and how many words of the area are answered.
-struct Ran {
-    returned: u32,
-    count: usize,
+// Where the program stands after a line, and how many bytes are written then.
+struct Reply {
+    stage: Stage,
+    written: usize,
 }
 
-fn told(returned: u32, count: usize) -> Ran
-    ensures { λ r. ⌜ (r .returned ≡ returned) × (r .count ≡ cond (eqb returned 0) count 0) ⌝ }
+// ---- one line
+
+// The first line was no fresh that the program takes: it writes the one field v.
+fn stop(out: &mut [u8], at: usize, v: u32) -> Reply
+    requires { ⌜ at + 128 ≤ length (now out) ⌝ }
+    ensures { λ r. ⌜ Appended (now (out .entry)) at (now (out .exit)) (r .written) (aloneLine v) × (r .stage ≡ Stage.Ended) × (r .written ≤ at + 128) ⌝ }
 {
-    if returned == 0 {
-        return Ran { returned, count };
+    let written = answers::put_alone(out, at, v);
+    Reply {
+        stage: Stage::Ended,
+        written: written,
     }
-    Ran { returned, count: 0 }
 }
 
-// Runs a line's call on a table of n processes. The area has 40 bytes, all 0: ten words, for a failure line of eight processes.
-fn run(call: Call, n: usize, table: &mut [u8], area: &mut [u8]) -> Ran
-    requires { ⌜ (n ≤ 8) × (now area ≡ replicate 40 0) ⌝ }
-    ensures { λ r. ⌜ Shows (ranOf n (now (table .entry)) (readingOf call)) r (now (table .exit)) (now (area .exit)) ⌝ }
+fn in_program_range(n: u32, e: u32) -> bool
+    ensures { λ r. ⌜ r ≡ inProgramRange n e ⌝ }
 {
-    match call {
-        Call::Fresh { n: _, e: _ } => told(99, 0),
-        Call::Checkpoint { p } => told(engine::ckpt_checkpoint(table, &mut area[..4], p), 1),
-        Call::Send { p, q } => told(engine::ckpt_send(table, &mut area[..8], p, q), 2),
-        Call::Receipt { p, q, k } => told(engine::ckpt_receipt(table, &mut area[..8], p, q, k), 2),
-        Call::Line { number } => told(engine::ckpt_line(&table[..], &mut area[..4 * n], number), n),
-        Call::Failed { mask } => told(
-            engine::ckpt_failed(&table[..], &mut area[..4 * n + 8], mask),
-            n + 2,
-        ),
-        Call::Unreadable => told(99, 0),
+    layout::in_range(n as usize, e as usize) & (n <= 8) & (e <= 256)
+}
+
+// A fresh table in the room.
+fn begin(n: u32, e: u32, room: &mut [u8], out: &mut [u8], at: usize) -> Reply
+    requires { ⌜ (inProgramRange n e ≡ true) × (length (now room) ≡ 24680) × (at + 128 ≤ length (now out)) ⌝ }
+    ensures { λ r. ⌜ Replies (began n e) r (now (out .entry)) at (now (out .exit)) (now (room .exit)) ⌝ }
+{
+    let m = n as usize;
+    let size = layout::table_size(m, e as usize);
+    let r = engine::ckpt_fresh(&mut room[..size], n, e);
+    let area = [0u8; 4];
+    let told = answers::Ran {
+        returned: r,
+        count: 0,
+    };
+    let written = answers::put_answer(out, at, m, told, &area);
+    Reply {
+        stage: Stage::Running { n: m, size: size },
+        written: written,
+    }
+}
+
+// The first line.
+fn open(call: Call, room: &mut [u8], out: &mut [u8], at: usize) -> Reply
+    requires { ⌜ (length (now room) ≡ 24680) × (at + 128 ≤ length (now out)) ⌝ }
+    ensures { λ r. ⌜ Replies (opened (readingOf call)) r (now (out .entry)) at (now (out .exit)) (now (room .exit)) ⌝ }
+{
+    let Call::Fresh { n, e } = call else {
+        return stop(out, at, 99);
+    };
+    if in_program_range(n, e) {
+        return begin(n, e, room, out, at);
+    }
+    stop(out, at, 1)
+}
+
+// A later line.
+fn answer(call: Call, n: usize, size: usize, room: &mut [u8], out: &mut [u8], at: usize) -> Reply
+    requires { ⌜ (length (now room) ≡ 24680) × (n ≤ 8) × (size ≤ 24680) × (at + 128 ≤ length (now out)) ⌝ }
+    ensures { λ r. ⌜ Replies (replied (running n (take size (now (room .entry)))) (readingOf call)) r (now (out .entry)) at (now (out .exit)) (now (room .exit)) ⌝ }
+{
+    let mut area = [0u8; 40];
+    let r = answers::run(call, n, &mut room[..size], &mut area);
+    let written = answers::put_answer(out, at, n, r, &area);
+    Reply {
+        stage: Stage::Running { n: n, size: size },
+        written: written,
+    }
+}
+
+fn answer_line(stage: Stage, line: &[u8], room: &mut [u8], out: &mut [u8], at: usize) -> Reply
+    requires { ⌜ Fits stage (now room) × (at + 128 ≤ length (now out)) ⌝ }
+    ensures { λ r. ⌜ Replies (replied (stageOf stage (now (room .entry))) (readLine (now (line .entry)))) r (now (out .entry)) at (now (out .exit)) (now (room .exit)) ⌝ }
+{
+    let call = reading::read_line(line);
+    match stage {
+        Stage::Waiting => open(call, room, out, at),
+        Stage::Running { n, size } => answer(call, n, size, room, out, at),
+        Stage::Ended => Reply {
+            stage: Stage::Ended,
+            written: at,
+        },
+    }
+}
+
+// ---- the input
+
+// Whether b ends the line of which `held` bytes are held: only CR LF does.
+fn ends(line: &[u8], held: usize, b: u8) -> bool
+    requires { ⌜ (held ≤ 66) × (length (now line) ≡ 66) ⌝ }
+    ensures { λ r. ⌜ r ≡ (eqb b 10 && endsInCR (take held (now (line .entry)))) ⌝ }
+{
+    if held == 0 {
+        return false;
+    }
+    (b == 10) & (line[held - 1] == 13)
+}
+
+// One byte.
+fn take_byte(s: Session, line: &mut [u8], room: &mut [u8], b: u8, out: &mut [u8]) -> Session
+    requires { ⌜ Ready s (now line) (now room) × (s .written + 128 ≤ length (now out)) ⌝ }
+    ensures { λ r. ⌜ Took s (now (line .entry)) (now (room .entry)) (now (out .entry)) (b ∷ []) r (now (line .exit)) (now (room .exit)) (now (out .exit)) ⌝ }
+{
+    let held = s.held;
+    let stage = s.stage;
+    let written = s.written;
+    if ends(line, held, b) {
+        let before = held - 1;
+        let r = answer_line(stage, &line[..before], room, out, written);
+        let after = r.stage;
+        return Session {
+            held: 0,
+            stage: after,
+            written: r.written,
+        };
+    }
+    if held < 66 {
+        line[held] = b;
+        return Session {
+            held: held + 1,
+            stage: stage,
+            written: written,
+        };
+    }
+    line[65] = b;
+    s
+}
+
+pub fn start() -> Session
+    ensures { λ r. ⌜ (r .held ≡ 0) × (r .stage ≡ Stage.Waiting) × ((line : List ℕ) → (room : List ℕ) → (x : List ℕ) → owedBy r line room x ≡ textOutput x) ⌝ }
+{
+    Session {
+        held: 0,
+        stage: Stage::Waiting,
+        written: 0,
+    }
+}
+
+// The next bytes of the input. `out` has room for an answer to every byte.
+pub fn feed(s: Session, line: &mut [u8], room: &mut [u8], chunk: &[u8], out: &mut [u8]) -> Session
+    requires { ⌜ Ready s (now line) (now room) × (128 * length (now chunk) ≤ length (now out)) ⌝ }
+    ensures { λ r. ⌜ Ready r (now (line .exit)) (now (room .exit)) × (r .written ≤ length (now (out .exit))) × ((x : List ℕ) → owedBy s (now (line .entry)) (now (room .entry)) ((now (chunk .entry)) ++ x) ≡ take (r .written) (now (out .exit)) ++ owedBy r (now (line .exit)) (now (room .exit)) x) ⌝ }
+{
+    let mut c = s;
+    c.written = 0;
+    let mut i: usize = 0;
+    while i < chunk.len() {
+        c = take_byte(c, line, room, chunk[i], out);
+        i += 1;
+    }
+    c
+}
+
+// The end of the input, where a last line may lack its CR LF. Answers how many bytes are written.
+pub fn finish(s: Session, line: &[u8], room: &mut [u8], out: &mut [u8]) -> usize
+    requires { ⌜ Ready s (now line) (now room) × (128 ≤ length (now out)) ⌝ }
+    ensures { λ r. ⌜ (r ≤ length (now (out .exit))) × (take r (now (out .exit)) ≡ owedBy s (now (line .entry)) (now (room .entry)) []) ⌝ }
+{
+    let held = s.held;
+    if held == 0 {
+        return 0;
+    }
+    let stage = s.stage;
+    let r = answer_line(stage, &line[..held], room, out, 0);
+    r.written
+}
+
+// Whether nothing more will be written.
+pub fn ended(s: Session) -> bool
+    ensures { λ r. ⌜ (r ≡ true → (line : List ℕ) → (room : List ℕ) → (x : List ℕ) → owedBy s line room x ≡ []) ⌝ }
+{
+    let stage = s.stage;
+    match stage {
+        Stage::Waiting => false,
+        Stage::Running { n: _, size: _ } => false,
+        Stage::Ended => true,
     }
 }

@@ -1,0 +1,381 @@
+-- A line answered, and a line that is held.
+use mathlib.Core.Path.{_≡_, refl, _∙_, sym, ap, subst}
+use mathlib.Core.Logic.{_⊎_, inl, inr}
+use mathlib.Core.Bool.{Bool, true, false, not, cond, _&&_, and-eq-true-iff, false≢true}
+use mathlib.Core.List.{List, [], _∷_, _++_, append-assoc, append-nil}
+use Prim.Native.Nat.{ℕ, zero, suc, _+_, _-_, _*_, _≤_, _<_}
+use native.Mathlib.Omega.{arith}
+use native.Mathlib.Numerals.{add-one}
+use native.Mathlib.Nat.{not-suc-le-zero, mul-le-mul, suc-ne-zero}
+use lib.Dec.{leb, eqb}
+use lib.ListN.{length, getD, set, take, drop, replicate, length-append, length-replicate, length-set}
+use lib.Seq.{take-at, take-take, take-suc, take-suc-set, take-set-le, take-all, length-take-le, getD-take, getD-at}
+use types.Run.{OneOf}
+use denote.Enum.Declared.{tagOf}
+use borrow.Author.Tests.{leb-true, eq-eqb, lt-leb}
+use Rattle.xdr.specs.Words.{words}
+use Rattle.rules.specs.Table.{inRange, size, layout, fresh}
+use Rattle.rules.specs.Calls.{Outcome, outcome, answerWords, freshOn}
+use Rattle.rules.specs.Text as text
+use Rattle.reading.specs.declared.Call.{Call}
+use Rattle.reading.specs.declared.Call.the-variants.{Fresh, Checkpoint, Send, Receipt, Line, Failed, Unreadable}
+use Rattle.reading.proofs.Call.{the-type}
+use Rattle.reading.specs.Meanings.{readingOf}
+use Rattle.decimal.specs.Appended.{Appended}
+use Rattle.decimal.proofs.Texts.{appended-none, appended-as}
+use Rattle.answers.specs.declared.Ran.{Ran}
+use Rattle.answers.specs.Shows.{Shows, shown}
+use Rattle.text.specs.declared.Stage.{Stage}
+use Rattle.text.specs.declared.Stage.the-variants.{Waiting, Running, Ended}
+use Rattle.text.specs.declared.Session.{Session}
+use Rattle.text.specs.declared.Reply.{Reply}
+use Rattle.text.specs.Session.{stageOf, Within, Fits, Replies, owedBy, Ready, Took}
+
+and-false : (a : Bool) → (a && false) ≡ false
+and-false true = refl
+and-false false = refl
+
+-- ---- a table in its room
+
+-- the program's range, and the length of a table in it
+pub in-range : (n e : ℕ) → text.inProgramRange n e ≡ true → (inRange n e ≡ true) × (n ≤ 8) × (e ≤ 256)
+in-range n e h =
+    let all = and-eq-true-iff (inRange n e && leb n 8) (leb e 256) .0 h in
+    let two = and-eq-true-iff (inRange n e) (leb n 8) .0 (all .0) in
+    (two .0, leb-true n 8 (two .1), leb-true e 256 (all .1))
+
+pub room-enough : (n e : ℕ) {s : ℕ} → text.inProgramRange n e ≡ true → s ≡ size n e → s ≤ 24680
+room-enough n e h eq =
+    let r = in-range n e h in
+    let a : 12 * n ≤ 96 = omega (arith, r .1) in
+    let b : e + 1 ≤ 257 = omega (arith, r .2) in
+    let most : 12 * n * (e + 1) ≤ 96 * 257 = mul-le-mul a b in
+    omega (arith, eq, most)
+
+-- a fresh call on a table of the exact length, whatever its bytes
+fresh-is : (t : List ℕ) (n e : ℕ) → inRange n e ≡ true → length t ≡ size n e → freshOn t n e ≡ outcome 0 (layout n e (fresh n)) []
+unfolding freshOn
+fresh-is t n e r l = simp (r, eq-eqb (length t) (size n e) l) refl
+
+pub fresh-begun : (t : List ℕ) (n e : ℕ) → text.inProgramRange n e ≡ true → length t ≡ size n e → freshOn t n e ≡ text.begun n e
+fresh-begun t n e h l =
+    let r = in-range n e h .0 in
+    fresh-is t n e r l ∙ sym (fresh-is (replicate (size n e) 0) n e r (length-replicate {A = ℕ} (size n e) 0))
+
+-- a table that was lent from the room is back in it
+pub room-back : (n m : ℕ) (t room : List ℕ) {u : List ℕ} → length t ≡ length (take m room) → m ≤ length room → t ≡ u
+    → stageOf (Running n m) (t ++ drop m room) ≡ text.running n u
+room-back n m t room e le h = ap (text.running n) (take-at t (drop m room) m (e ∙ length-take-le m room le) ∙ h)
+
+-- ---- replies
+
+pub replies-as : {want want′ : text.Reply} {r : Reply} {before out room : List ℕ} {at : ℕ} → want ≡ want′ → Replies want r before at out room
+    → Replies want′ r before at out room
+replies-as {want} {want′} {r} {before} {out} {room} {at} e h = subst (λ (w : text.Reply). Replies w r before at out room) e h
+
+-- an answer in place
+pub replies-answer : (n m : ℕ) (o : Outcome) (t : List ℕ) {before out : List ℕ} {at x : ℕ} (room : List ℕ) → Appended before at out x (text.answerLine n o) × (x ≤ at + 128)
+    → length t ≡ length (take m room) → length (t ++ drop m room) ≡ length room → length room ≡ 24680 → m ≤ 24680 → n ≤ 8 → t ≡ o .table
+    → Replies (text.reply (text.answerLine n o) (text.running n (o .table))) (record { stage = Running n m; written = x }) before at out (t ++ drop m room)
+replies-answer n m o t room put lent back len le eight e =
+    record {
+      text = put .0;
+      stage = room-back n m t room lent (omega (arith, le, len)) e;
+      fits = (back ∙ len, (eight, le));
+      most = put .1;
+    }
+
+-- fresh has no words
+fresh-words : (r : ℕ) (t : List ℕ) → answerWords (outcome r t []) ≡ []
+fresh-words r t = either (eqb r 0)
+  where
+    either : (b : Bool) → cond b (words []) [] ≡ []
+    either true = refl
+    either false = refl
+
+pub fresh-line : (n r : ℕ) (t : List ℕ) (o : Outcome) {before out : List ℕ} {at x : ℕ} → outcome r t [] ≡ o
+    → Appended before at out x (text.decimal r ++ text.furtherFields (n + 2) [] ++ text.lineEnd) × (x ≤ at + 128)
+    → Appended before at out x (text.answerLine n o) × (x ≤ at + 128)
+fresh-line n r t o e put =
+    (appended-as
+    (ap (λ (ws : List ℕ). text.decimal r ++ text.furtherFields (n + 2) ws ++ text.lineEnd) (sym (fresh-words r t)) ∙ ap (text.answerLine n) e)
+    (put .0),
+    put .1)
+
+pub call-line : (n : ℕ) (o : Outcome) (res : Ran) (t area : List ℕ) {before out : List ℕ} {at x : ℕ} → Shows o res t area
+    → Appended before at out x (text.decimal (res .returned) ++ text.furtherFields (n + 2) (shown (res .count) area) ++ text.lineEnd) × (x ≤ at + 128)
+    → Appended before at out x (text.answerLine n o) × (x ≤ at + 128)
+call-line n o res t area h put =
+    (appended-as
+    (ap (λ (r : ℕ). text.decimal r ++ text.furtherFields (n + 2) (shown (res .count) area) ++ text.lineEnd) (h .number)
+    ∙ ap (λ (ws : List ℕ). text.decimal (o .returned) ++ text.furtherFields (n + 2) ws ++ text.lineEnd) (h .words))
+    (put .0),
+    put .1)
+
+-- the program ends with the one field v
+pub replies-stop : (v : ℕ) (r : Reply) {want : text.Reply} {before out : List ℕ} {at : ℕ} (room : List ℕ)
+    → Appended before at out (r .written) (text.aloneLine v) × (r .stage ≡ Ended) × (r .written ≤ at + 128) → length room ≡ 24680
+    → text.reply (text.aloneLine v) text.ended ≡ want → Replies want r before at out room
+replies-stop v r {want} {before} {out} {at} room put len e =
+    replies-as e
+    (record {
+      text = put .0;
+      stage = ap (λ (g : Stage). stageOf g room) (put .1);
+      fits = (len, subst Within (sym (put .1)) tt);
+      most = put .2;
+    })
+
+none-is : OneOf (1 ∷ 2 ∷ 3 ∷ 4 ∷ 5 ∷ 6 ∷ []) 0 → ⊥
+none-is (inl e) = suc-ne-zero _ (sym e)
+none-is (inr (inl e)) = suc-ne-zero _ (sym e)
+none-is (inr (inr (inl e))) = suc-ne-zero _ (sym e)
+none-is (inr (inr (inr (inl e)))) = suc-ne-zero _ (sym e)
+none-is (inr (inr (inr (inr (inl e))))) = suc-ne-zero _ (sym e)
+none-is (inr (inr (inr (inr (inr e))))) = suc-ne-zero _ (sym e)
+
+-- a first line that is no fresh
+pub no-fresh : (x : Call) → OneOf (1 ∷ 2 ∷ 3 ∷ 4 ∷ 5 ∷ 6 ∷ []) (tagOf the-type x) → text.reply (text.aloneLine 99) text.ended ≡ text.opened (readingOf x)
+no-fresh (Fresh n e) k = absurd (none-is k)
+no-fresh (Checkpoint p) k = refl
+no-fresh (Send p q) k = refl
+no-fresh (Receipt p q m) k = refl
+no-fresh (Line n) k = refl
+no-fresh (Failed m) k = refl
+no-fresh Unreadable k = refl
+
+pub opened-as : {x : Call} {n e : ℕ} {b : Bool} → x ≡ Fresh n e → text.inProgramRange n e ≡ b
+    → cond b (text.began n e) (text.reply (text.aloneLine 1) text.ended) ≡ text.opened (readingOf x)
+opened-as {x} {n} {e} {b} h k =
+    ap (λ (c : Bool). cond c (text.began n e) (text.reply (text.aloneLine 1) text.ended)) (sym k) ∙ ap (λ (y : Call). text.opened (readingOf y)) (sym h)
+
+-- the reply to a line, at a stage that is known
+pub replied-as : {g g′ : Stage} {x y : text.Reading} (room : List ℕ) → g ≡ g′ → x ≡ y → text.replied (stageOf g′ room) x ≡ text.replied (stageOf g room) y
+replied-as {g} {g′} {x} {y} room e f =
+    ap (λ (h : Stage). text.replied (stageOf h room) x) (sym e) ∙ ap (text.replied (stageOf g room)) f
+
+-- ---- a line that is held
+
+-- what endsInCR looks at
+ends-at : (line : List ℕ) (held : ℕ) → held ≤ length line → 0 < held → text.endsInCR (take held line) ≡ eqb (getD line (held - 1) 0) 13
+ends-at line held le pos =
+    ap (λ (m : ℕ). eqb (getD (take held line) (m - 1) 0) 13) (length-take-le held line le)
+    ∙ ap (λ (b : ℕ). eqb b 13) (getD-take held line (held - 1) 0 (omega (arith, pos)))
+
+pub ends-some : (line : List ℕ) (held b : ℕ) → (held ≤ 66) × (length line ≡ 66) → (held ≡ 0 → ⊥)
+    → (eqb b 10 && eqb (getD line (held - 1) 0) 13) ≡ (eqb b 10 && text.endsInCR (take held line))
+ends-some line held b h ne =
+    let le : held ≤ length line = omega (arith, h .0, h .1) in
+    let pos : 0 < held = omega (arith, ne) in
+    ap (λ (a : Bool). eqb b 10 && a) (sym (ends-at line held le pos))
+
+pub ends-none : (line : List ℕ) (held b : ℕ) → held ≡ 0 → false ≡ (eqb b 10 && text.endsInCR (take held line))
+ends-none line held b e = sym (ap (λ (m : ℕ). eqb b 10 && text.endsInCR (take m line)) e ∙ and-false (eqb b 10))
+
+-- a line that has ended in CR is no empty one
+pub held-some : (line : List ℕ) (held b : ℕ) {r : Bool} → r ≡ (eqb b 10 && text.endsInCR (take held line)) → r ≡ true → 1 ≤ held
+held-some line zero b e t = absurd (false≢true (sym (and-false (eqb b 10)) ∙ sym e ∙ t))
+held-some line (suc held) b e t = omega arith
+
+-- lines of 66 bytes and more with the same last byte: neither is readable, and both end with the same byte
+abbrev Alike : List ℕ → List ℕ → Type 0
+Alike h k = (66 ≤ length h) × (66 ≤ length k) × (text.endsInCR h ≡ text.endsInCR k)
+
+too-long : (l : List ℕ) → 64 < length l → text.readLine l ≡ text.unreadable
+unfolding text.readLine
+too-long l lt = simp (lt-leb (length l) 64 lt) refl
+
+last-byte : (h : List ℕ) (b : ℕ) → text.endsInCR (h ++ (b ∷ [])) ≡ eqb b 13
+last-byte h b =
+    let n : length (h ++ (b ∷ [])) - 1 ≡ length h = omega (arith, length-append h (b ∷ [])) in
+    ap (λ (m : ℕ). eqb (getD (h ++ (b ∷ [])) m 0) 13) n ∙ ap (λ (c : ℕ). eqb c 13) (getD-at h b [] 0 (length h) refl)
+
+alike-on : (h k : List ℕ) (b : ℕ) → Alike h k → Alike (h ++ (b ∷ [])) (k ++ (b ∷ []))
+alike-on h k b a =
+    (omega (arith, length-append h (b ∷ []), a .0), omega (arith, length-append k (b ∷ []), a .1), last-byte h b ∙ sym (last-byte k b))
+
+alike-first : (g : text.Stage) (h k : List ℕ) (ls : List (List ℕ)) → 64 < length h → 64 < length k → text.answers g (h ∷ ls) ≡ text.answers g (k ∷ ls)
+alike-first g h k ls a b =
+    ap (λ (r : text.Reading). text.replied g r .text ++ text.answers (text.replied g r .stage) ls) (too-long h a ∙ sym (too-long k b))
+
+alike-last : (g : text.Stage) (h k : List ℕ) → 64 < length h → 64 < length k → text.answers g (text.lastLine h) ≡ text.answers g (text.lastLine k)
+alike-last g [] k a b = absurd (not-suc-le-zero a)
+alike-last g (c ∷ h) [] a b = absurd (not-suc-le-zero b)
+alike-last g (c ∷ h) (d ∷ k) a b = alike-first g (c ∷ h) (d ∷ k) [] a b
+
+choose : (g : text.Stage) (p : Bool) (u v s t : List (List ℕ)) → text.answers g u ≡ text.answers g v → text.answers g s ≡ text.answers g t
+    → text.answers g (cond p u s) ≡ text.answers g (cond p v t)
+choose g true u v s t m n = m
+choose g false u v s t m n = n
+
+alike : (g : text.Stage) (h k x : List ℕ) → Alike h k → text.answers g (text.linesFrom h x) ≡ text.answers g (text.linesFrom k x)
+alike g h k [] a = alike-last g h k (omega (arith, a .0)) (omega (arith, a .1))
+alike g h k (b ∷ x) a =
+    let a₀ : 66 ≤ length h = a .0 in
+    let a₁ : 66 ≤ length k = a .1 in
+    let h′ = take (length h - 1) h ∷ text.linesFrom [] x in
+    let k′ = take (length k - 1) k ∷ text.linesFrom [] x in
+    let dh : 64 < length (take (length h - 1) h) = omega (arith, length-take-le (length h - 1) h (omega arith), a₀) in
+    let dk : 64 < length (take (length k - 1) k) = omega (arith, length-take-le (length k - 1) k (omega arith), a₁) in
+    choose g (eqb b 10 && text.endsInCR h) h′ k′ (text.linesFrom (h ++ (b ∷ [])) x) (text.linesFrom (k ++ (b ∷ [])) x)
+    (alike-first g (take (length h - 1) h) (take (length k - 1) k) (text.linesFrom [] x) dh dk)
+    (alike g (h ++ (b ∷ [])) (k ++ (b ∷ [])) x (alike-on h k b a))
+    ∙ ap (λ (e : Bool). text.answers g (cond (eqb b 10 && e) k′ (text.linesFrom (k ++ (b ∷ [])) x))) (a .2)
+
+-- ---- one byte of the input
+
+-- what is owed after a byte that does not end the line
+kept : (g : text.Stage) (h : List ℕ) (b : ℕ) (x : List ℕ) {r : Bool} → r ≡ (eqb b 10 && text.endsInCR h) → r ≡ false
+    → text.answers g (text.linesFrom h (b ∷ x)) ≡ text.answers g (text.linesFrom (h ++ (b ∷ [])) x)
+kept g h b x e f =
+    ap (λ (p : Bool). text.answers g (cond p (take (length h - 1) h ∷ text.linesFrom [] x) (text.linesFrom (h ++ (b ∷ [])) x))) (sym e ∙ f)
+
+ended-line : (g : text.Stage) (h : List ℕ) (b : ℕ) (x : List ℕ) {r : Bool} → r ≡ (eqb b 10 && text.endsInCR h) → r ≡ true
+    → text.answers g (text.linesFrom h (b ∷ x)) ≡ text.answers g (take (length h - 1) h ∷ text.linesFrom [] x)
+ended-line g h b x e t =
+    ap (λ (p : Bool). text.answers g (cond p (take (length h - 1) h ∷ text.linesFrom [] x) (text.linesFrom (h ++ (b ∷ [])) x))) (sym e ∙ t)
+
+-- a byte that is held
+pub took-byte : (s : Session) (line room out : List ℕ) (b : ℕ) {r : Bool} → Ready s line room → r ≡ (eqb b 10 && text.endsInCR (take (s .held) line)) → r ≡ false
+    → s .held < 66
+    → Took s line room out (b ∷ []) (record { held = s .held + 1; stage = s .stage; written = s .written }) (set line (s .held) b) room out
+took-byte s line room out b ready e f lt =
+    let n = s .held in
+    let inside : n < length line = omega (arith, lt, ready .1) in
+    let held : take n line ++ (b ∷ []) ≡ take (n + 1) (set line n b) = sym (rw (add-one n) (take-suc-set line n b inside)) in
+    record {
+      total =
+          λ x.
+          ap (λ (l : List ℕ). take (s .written) out ++ l)
+          (kept (stageOf (s .stage) room) (take n line) b x e f
+          ∙ ap (λ (h : List ℕ). text.answers (stageOf (s .stage) room) (text.linesFrom h x)) held);
+      ready = (omega (arith, lt), length-set line n b ∙ ready .1, ready .2);
+      most = omega arith;
+      size = refl;
+    }
+
+-- a byte of a line that is too long already: it takes the place of the last
+pub took-last : (s : Session) (line room out : List ℕ) (b : ℕ) {r : Bool} → Ready s line room → r ≡ (eqb b 10 && text.endsInCR (take (s .held) line)) → r ≡ false
+    → 66 ≤ s .held → Took s line room out (b ∷ []) s (set line 65 b) room out
+took-last s line room out b ready e f ge =
+    let n = s .held in
+    let full : n ≡ 66 = omega (arith, ge, ready .0) in
+    let len : length line ≡ 66 = ready .1 in
+    let held : take n (set line 65 b) ≡ take 65 line ++ (b ∷ []) = ap (λ (m : ℕ). take m (set line 65 b)) full ∙ take-suc-set line 65 b (omega (arith, len)) in
+    let one : length (take n line) ≡ n = length-take-le n line (omega (arith, full, len)) in
+    let two : length (take 65 line) ≡ 65 = length-take-le 65 line (omega (arith, len)) in
+    let same : Alike (take n line ++ (b ∷ [])) (take 65 line ++ (b ∷ [])) =
+        (omega (arith, length-append (take n line) (b ∷ []), one, full),
+        omega (arith, length-append (take 65 line) (b ∷ []), two),
+        last-byte (take n line) b ∙ sym (last-byte (take 65 line) b)) in
+    record {
+      total =
+          λ x.
+          ap (λ (l : List ℕ). take (s .written) out ++ l)
+          (kept (stageOf (s .stage) room) (take n line) b x e f
+          ∙ alike (stageOf (s .stage) room) (take n line ++ (b ∷ [])) (take 65 line ++ (b ∷ [])) x same
+          ∙ ap (λ (h : List ℕ). text.answers (stageOf (s .stage) room) (text.linesFrom h x)) (sym held));
+      ready = (ready .0, length-set line 65 b ∙ ready .1, ready .2);
+      most = omega arith;
+      size = refl;
+    }
+
+-- the byte that ends a line, which is then answered
+pub took-line : (s : Session) (line room out : List ℕ) (b : ℕ) {r : Bool} (a : Reply) (out′ room′ : List ℕ) → Ready s line room
+    → r ≡ (eqb b 10 && text.endsInCR (take (s .held) line)) → r ≡ true
+    → Replies (text.replied (stageOf (s .stage) room) (text.readLine (take (s .held - 1) line))) a out (s .written) out′ room′
+    → Took s line room out (b ∷ []) (record { held = 0; stage = a .stage; written = a .written }) line room′ out′
+took-line s line room out b a out′ room′ ready e t rep =
+    let n = s .held in
+    let g = stageOf (s .stage) room in
+    let le : n ≤ length line = omega (arith, ready .0, ready .1) in
+    let line-is : take (length (take n line) - 1) (take n line) ≡ take (n - 1) line =
+        ap (λ (m : ℕ). take (m - 1) (take n line)) (length-take-le n line le) ∙ take-take (n - 1) n line (omega arith) in
+    let want = text.replied g (text.readLine (take (n - 1) line)) in
+    record {
+      total =
+          λ x.
+          ap (λ (l : List ℕ). take (s .written) out ++ l)
+          (ended-line g (take n line) b x e t ∙ ap (λ (l : List ℕ). text.answers g (l ∷ text.linesFrom [] x)) line-is)
+          ∙ sym (append-assoc (take (s .written) out) (want .text) (text.answers (want .stage) (text.linesFrom [] x)))
+          ∙ ap (λ (l : List ℕ). l ++ text.answers (want .stage) (text.linesFrom [] x)) (sym (rep .text .text))
+          ∙ ap (λ (h : text.Stage). take (a .written) out′ ++ text.answers h (text.linesFrom [] x)) (sym (rep .stage));
+      ready = (omega arith, ready .1, rep .fits);
+      most = omega (arith, rep .most);
+      size = rep .text .room;
+    }
+
+-- ---- chunks
+
+pub took-none : (s : Session) (line room out : List ℕ) → Ready s line room → Took s line room out [] s line room out
+took-none s line room out ready = record { total = λ x. refl; ready = ready; most = omega arith; size = refl }
+
+pub took-both : {s r q : Session} {line room out line₁ room₁ out₁ line₂ room₂ out₂ fed more : List ℕ} → Took s line room out fed r line₁ room₁ out₁
+    → Took r line₁ room₁ out₁ more q line₂ room₂ out₂ → Took s line room out (fed ++ more) q line₂ room₂ out₂
+took-both {s} {r} {q} {line} {room} {out} {line₁} {room₁} {out₁} {line₂} {room₂} {out₂} {fed} {more} h k =
+    record {
+      total =
+          λ x. ap (λ (l : List ℕ). take (s .written) out ++ owedBy s line room l) (append-assoc fed more x) ∙ h .total (more ++ x) ∙ k .total x;
+      ready = k .ready;
+      most = omega (arith, h .most, k .most, length-append fed more);
+      size = k .size ∙ h .size;
+    }
+
+-- the bytes of a chunk up to i, and the next
+pub took-next : {s r q : Session} {line room out line₁ room₁ out₁ line₂ room₂ out₂ : List ℕ} (chunk : List ℕ) (i : ℕ) → i < length chunk
+    → Took s line room out (take i chunk) r line₁ room₁ out₁ → Took r line₁ room₁ out₁ (getD chunk i 0 ∷ []) q line₂ room₂ out₂
+    → Took s line room out (take (i + 1) chunk) q line₂ room₂ out₂
+took-next {s} {r} {q} {line} {room} {out} {line₁} {room₁} {out₁} {line₂} {room₂} {out₂} chunk i lt h k =
+    subst (λ (fed : List ℕ). Took s line room out fed q line₂ room₂ out₂) (sym (rw (add-one i) (take-suc chunk i 0 lt))) (took-both h k)
+
+-- a whole chunk, from a session that has written nothing
+pub took-chunk : (s : Session) (line room out chunk : List ℕ) {q : Session} {line′ room′ out′ : List ℕ} (i : ℕ) → length chunk ≤ i
+    → 128 * length chunk ≤ length out
+    → Took (record { held = s .held; stage = s .stage; written = 0 }) line room out (take i chunk) q line′ room′ out′
+    → Ready q line′ room′ × (q .written ≤ length out′)
+    × ((x : List ℕ) → owedBy s line room (chunk ++ x) ≡ take (q .written) out′ ++ owedBy q line′ room′ x)
+took-chunk s line room out chunk i le most h =
+    let all : take i chunk ≡ chunk = take-all i chunk le in
+    (h .ready,
+    omega (arith, h .most, h .size, most, ap length all),
+    λ x. ap (λ (l : List ℕ). owedBy s line room (l ++ x)) (sym all) ∙ h .total x)
+
+-- ---- the end of the input
+
+-- nothing is held
+pub owes-none : (s : Session) (line room : List ℕ) → s .held ≡ 0 → owedBy s line room [] ≡ []
+owes-none s line room e = ap (λ (m : ℕ). text.answers (stageOf (s .stage) room) (text.lastLine (take m line))) e
+
+last-answer : (g : text.Stage) (h : List ℕ) → 0 < length h → text.answers g (text.lastLine h) ≡ text.replied g (text.readLine h) .text
+last-answer g [] pos = absurd (not-suc-le-zero pos)
+last-answer g (b ∷ h) pos = append-nil (text.replied g (text.readLine (b ∷ h)) .text)
+
+-- a last line that lacks its CR LF
+pub owes-line : (s : Session) (line room out : List ℕ) (a : Reply) (out′ room′ : List ℕ) → Ready s line room → (s .held ≡ 0 → ⊥) → 128 ≤ length out
+    → Replies (text.replied (stageOf (s .stage) room) (text.readLine (take (s .held) line))) a out 0 out′ room′
+    → (a .written ≤ length out′) × (take (a .written) out′ ≡ owedBy s line room [])
+owes-line s line room out a out′ room′ ready ne enough rep =
+    let n = s .held in
+    let len : length (take n line) ≡ n = length-take-le n line (omega (arith, ready .0, ready .1)) in
+    let pos : 0 < length (take n line) = omega (arith, len, ne) in
+    (omega (arith, rep .most, rep .text .room, enough),
+    rep .text .text ∙ sym (last-answer (stageOf (s .stage) room) (take n line) pos))
+
+answers-ended : (ls : List (List ℕ)) → text.answers text.ended ls ≡ []
+answers-ended [] = refl
+answers-ended (l ∷ ls) = answers-ended ls
+
+pub owes-nothing : (s : Session) (line room x : List ℕ) → s .stage ≡ Ended → owedBy s line room x ≡ []
+owes-nothing s line room x e =
+    ap (λ (g : Stage). text.answers (stageOf g room) (text.linesFrom (take (s .held) line) x)) e ∙ answers-ended (text.linesFrom (take (s .held) line) x)
+
+-- ---- stages that are known
+
+pub running-fits : (g : Stage) {n m : ℕ} → g ≡ Running n m → Within g → (n ≤ 8) × (m ≤ 24680)
+running-fits g e h = subst Within e h
+
+-- at its end the program writes nothing
+pub replies-ended : {g : Stage} (room out : List ℕ) (at : ℕ) (r : text.Reading) → g ≡ Ended → Fits g room
+    → Replies (text.replied (stageOf g room) r) (record { stage = Ended; written = at }) out at out room
+replies-ended {g} room out at r e h =
+    replies-as (ap (λ (k : Stage). text.replied (stageOf k room) r) (sym e))
+    (record { text = appended-none out at; stage = refl; fits = (h .0, tt); most = omega arith })
