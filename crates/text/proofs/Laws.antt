@@ -96,21 +96,23 @@ fresh-words r t = either (eqb r 0)
 pub fresh-line : (n r : ℕ) (t : List ℕ) (o : Outcome) {before out : List ℕ} {at x : ℕ} → outcome r t [] ≡ o
     → Appended before at out x (text.decimal r ++ text.furtherFields (n + 2) [] ++ text.lineEnd) × (x ≤ at + 128)
     → Appended before at out x (text.answerLine n o) × (x ≤ at + 128)
-fresh-line n r t o e put =
-    (appended-as
-    (ap (λ (ws : List ℕ). text.decimal r ++ text.furtherFields (n + 2) ws ++ text.lineEnd) (sym (fresh-words r t)) ∙ ap (text.answerLine n) e)
-    (put .0),
-    put .1)
+fresh-line n r t o e put = (
+  appended-as
+      (ap (λ (ws : List ℕ). text.decimal r ++ text.furtherFields (n + 2) ws ++ text.lineEnd) (sym (fresh-words r t)) ∙ ap (text.answerLine n) e)
+      (put .0),
+  put .1,
+)
 
 pub call-line : (n : ℕ) (o : Outcome) (res : Ran) (t area : List ℕ) {before out : List ℕ} {at x : ℕ} → Shows o res t area
     → Appended before at out x (text.decimal (res .returned) ++ text.furtherFields (n + 2) (shown (res .count) area) ++ text.lineEnd) × (x ≤ at + 128)
     → Appended before at out x (text.answerLine n o) × (x ≤ at + 128)
-call-line n o res t area h put =
-    (appended-as
-    (ap (λ (r : ℕ). text.decimal r ++ text.furtherFields (n + 2) (shown (res .count) area) ++ text.lineEnd) (h .number)
-    ∙ ap (λ (ws : List ℕ). text.decimal (o .returned) ++ text.furtherFields (n + 2) ws ++ text.lineEnd) (h .words))
-    (put .0),
-    put .1)
+call-line n o res t area h put = (
+  appended-as
+      (ap (λ (r : ℕ). text.decimal r ++ text.furtherFields (n + 2) (shown (res .count) area) ++ text.lineEnd) (h .number)
+      ∙ ap (λ (ws : List ℕ). text.decimal (o .returned) ++ text.furtherFields (n + 2) ws ++ text.lineEnd) (h .words))
+      (put .0),
+  put .1,
+)
 
 -- the program ends with the one field v
 pub replies-stop : (v : ℕ) (r : Reply) {want : text.Reply} {before out : List ℕ} {at : ℕ} (room : List ℕ)
@@ -263,10 +265,11 @@ took-last s line room out b ready e f ge =
     let held : take n (set line 65 b) ≡ take 65 line ++ (b ∷ []) = ap (λ (m : ℕ). take m (set line 65 b)) full ∙ take-suc-set line 65 b (omega (arith, len)) in
     let one : length (take n line) ≡ n = length-take-le n line (omega (arith, full, len)) in
     let two : length (take 65 line) ≡ 65 = length-take-le 65 line (omega (arith, len)) in
-    let same : Alike (take n line ++ (b ∷ [])) (take 65 line ++ (b ∷ [])) =
-        (omega (arith, length-append (take n line) (b ∷ []), one, full),
-        omega (arith, length-append (take 65 line) (b ∷ []), two),
-        last-byte (take n line) b ∙ sym (last-byte (take 65 line) b)) in
+    let same : Alike (take n line ++ (b ∷ [])) (take 65 line ++ (b ∷ [])) = (
+      omega (arith, length-append (take n line) (b ∷ []), one, full),
+      omega (arith, length-append (take 65 line) (b ∷ []), two),
+      last-byte (take n line) b ∙ sym (last-byte (take 65 line) b),
+    ) in
     record {
       total =
           λ x.
@@ -289,7 +292,7 @@ took-line s line room out b a out′ room′ ready e t rep =
     let g = stageOf (s .stage) room in
     let le : n ≤ length line = omega (arith, ready .0, ready .1) in
     let line-is : take (length (take n line) - 1) (take n line) ≡ take (n - 1) line =
-        ap (λ (m : ℕ). take (m - 1) (take n line)) (length-take-le n line le) ∙ take-take (n - 1) n line (omega arith) in
+    ap (λ (m : ℕ). take (m - 1) (take n line)) (length-take-le n line le) ∙ take-take (n - 1) n line (omega arith) in
     let want = text.replied g (text.readLine (take (n - 1) line)) in
     record {
       total =
@@ -334,10 +337,11 @@ pub took-chunk : (s : Session) (line room out chunk : List ℕ) {q : Session} {l
     → Ready q line′ room′ × (q .written ≤ length out′)
     × ((x : List ℕ) → owedBy s line room (chunk ++ x) ≡ take (q .written) out′ ++ owedBy q line′ room′ x)
 took-chunk s line room out chunk i le most h =
-    let all : take i chunk ≡ chunk = take-all i chunk le in
-    (h .ready,
-    omega (arith, h .most, h .size, most, ap length all),
-    λ x. ap (λ (l : List ℕ). owedBy s line room (l ++ x)) (sym all) ∙ h .total x)
+    let all : take i chunk ≡ chunk = take-all i chunk le in (
+      h .ready,
+      omega (arith, h .most, h .size, most, ap length all),
+      λ x. ap (λ (l : List ℕ). owedBy s line room (l ++ x)) (sym all) ∙ h .total x,
+    )
 
 -- ---- the end of the input
 
@@ -356,9 +360,10 @@ pub owes-line : (s : Session) (line room out : List ℕ) (a : Reply) (out′ roo
 owes-line s line room out a out′ room′ ready ne enough rep =
     let n = s .held in
     let len : length (take n line) ≡ n = length-take-le n line (omega (arith, ready .0, ready .1)) in
-    let pos : 0 < length (take n line) = omega (arith, len, ne) in
-    (omega (arith, rep .most, rep .text .room, enough),
-    rep .text .text ∙ sym (last-answer (stageOf (s .stage) room) (take n line) pos))
+    let pos : 0 < length (take n line) = omega (arith, len, ne) in (
+      omega (arith, rep .most, rep .text .room, enough),
+      rep .text .text ∙ sym (last-answer (stageOf (s .stage) room) (take n line) pos),
+    )
 
 answers-ended : (ls : List (List ℕ)) → text.answers text.ended ls ≡ []
 answers-ended [] = refl
