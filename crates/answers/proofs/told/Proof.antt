@@ -1,16 +1,12 @@
-use mathlib.Core.Path.{refl, sym, ap}
 use mathlib.Core.Bool.{Bool, cond}
+use mathlib.Core.Path.{refl, sym, ap}
 use borrow.Author.Tests.{eq-eqb, ne-eqb}
 use Rattle.answers.proofs.told.Statement.{statement}
 use Rattle.answers.proofs.told.Tie as tie
-use Rattle.answers.proofs.told.Reads as reads
-use Rattle.answers.proofs.told.Lts as lts
 
--- src/lib.rt:25:9
 returns : tie.Need-returns
 returns c = (refl, ap (λ (b : Bool). cond b (c .before .args .count) 0) (sym (eq-eqb _ 0 (c .if1 .taken))))
 
--- src/lib.rt:21:1
 returns-2 : tie.Need-returns-2
 returns-2 c = (refl, ap (λ (b : Bool). cond b (c .before .args .count) 0) (sym (ne-eqb _ 0 (c .if1 .left))))
 

@@ -1,53 +1,50 @@
-use native.Mathlib.Omega.{arith}
-use Rattle.text.proofs.Laws.{call-line, replies-answer}
 use mathlib.Core.Path.{sym}
-use lib.Seq.{length-take-le}
+use native.Mathlib.Omega.{arith}
 use lib.ListN.{take}
-use Rattle.rules.specs.Text.{ran}
-use Rattle.reading.specs.Meanings.{readingOf}
+use lib.Seq.{length-take-le}
 use borrow.Author.Needs.{needs}
+use Rattle.reading.specs.Meanings.{readingOf}
+use Rattle.rules.specs.Text.{ran}
+use Rattle.text.proofs.Laws.{call-line, replies-answer}
 use Rattle.text.proofs.answer.Statement.{statement}
 use Rattle.text.proofs.answer.Tie as tie
-use Rattle.text.proofs.answer.Reads as reads
-use Rattle.text.proofs.answer.Lts as lts
-use Rattle.answers.proofs.put_answer.Reads as put-answer-reads
-use Rattle.answers.proofs.run.Reads as run-reads
 
--- src/lib.rt:97:35
 slice-relend-prefix-run : tie.Need-slice-relend-prefix-run
 slice-relend-prefix-run c = search needs
 
--- src/lib.rt:97:35
 slice-aggregate-run : tie.Need-slice-aggregate-run
-slice-aggregate-run c = sym (length-take-le (c .before .before .before .args .size) (c .before .before .before .args .room .now) (omega (arith, c .before .before .before .pre .0, c .before .before .before .pre .2)))
+slice-aggregate-run c =
+    let c3 = c .before .before .before in
+    let a = c3 .args in
+    sym (length-take-le (a .size) (a .room .now) (omega (arith, c3 .pre .0, c3 .pre .2)))
 
--- src/lib.rt:97:54
 slice-aggregate-run-2 : tie.Need-slice-aggregate-run-2
 slice-aggregate-run-2 c = search needs
 
--- src/lib.rt:97:9
 run-requires : tie.Need-run-requires
 run-requires c κs = search needs
 
--- src/lib.rt:98:54
 slice-aggregate-put-answer : tie.Need-slice-aggregate-put-answer
 slice-aggregate-put-answer c = search needs
 
--- src/lib.rt:98:9
 put-answer-requires : tie.Need-put-answer-requires
 put-answer-requires c κs = search needs
 
--- src/lib.rt:92:1
 same-length : tie.Need-same-length
 same-length c = search needs
 
--- src/lib.rt:92:1
 same-length-2 : tie.Need-same-length-2
 same-length-2 c = search needs
 
--- src/lib.rt:92:1
 returns : tie.Need-returns
-returns c = replies-answer (c .before .before .before .before .before .before .before .before .before .before .before .before .before .args .n) (c .before .before .before .before .before .before .before .before .before .before .before .before .before .args .size) (ran (c .before .before .before .before .before .before .before .before .before .before .before .before .before .args .n) (take (c .before .before .before .before .before .before .before .before .before .before .before .before .before .args .size) (c .before .before .before .before .before .before .before .before .before .before .before .before .before .args .room .now)) (readingOf (c .before .before .before .before .before .before .before .before .before .before .before .before .before .args .call))) _ (c .before .before .before .before .before .before .before .before .before .before .before .before .before .args .room .now) (call-line (c .before .before .before .before .before .before .before .before .before .before .before .before .before .args .n) (ran (c .before .before .before .before .before .before .before .before .before .before .before .before .before .args .n) (take (c .before .before .before .before .before .before .before .before .before .before .before .before .before .args .size) (c .before .before .before .before .before .before .before .before .before .before .before .before .before .args .room .now)) (readingOf (c .before .before .before .before .before .before .before .before .before .before .before .before .before .args .call))) _ _ _ (c .before .before .before .before .before .before .before .before .run .ensures) (c .before .before .put-answer .ensures)) (c .before .before .before .before .before .before .before .room .given .0) (c .before .before .before .before .before .before .before .room .given .1) (c .before .before .before .before .before .before .before .before .before .before .before .before .before .pre .0) (c .before .before .before .before .before .before .before .before .before .before .before .before .before .pre .2) (c .before .before .before .before .before .before .before .before .before .before .before .before .before .pre .1) (c .before .before .before .before .before .before .before .before .run .ensures .left)
+returns c =
+    let c7 = c .before .before .before .before .before .before .before in
+    let c8 = c7 .before in
+    let c13 = c8 .before .before .before .before .before in
+    let a = c13 .args in
+    replies-answer (a .n) (a .size) (ran (a .n) (take (a .size) (a .room .now)) (readingOf (a .call))) _ (a .room .now)
+    (call-line (a .n) (ran (a .n) (take (a .size) (a .room .now)) (readingOf (a .call))) _ _ _ (c8 .run .ensures) (c .before .before .put-answer .ensures))
+    (c7 .room .given .0) (c7 .room .given .1) (c13 .pre .0) (c13 .pre .2) (c13 .pre .1) (c8 .run .ensures .left)
 
 pub answer-spec : {M : Type 1} → statement M
 answer-spec =

@@ -1,32 +1,24 @@
-use Rattle.text.proofs.Laws.{owes-nothing}
 use mathlib.Core.Bool.{false≢true}
 use borrow.Author.Needs.{needs}
+use Rattle.text.proofs.Laws.{owes-nothing}
 use Rattle.text.proofs.ended.Statement.{statement}
 use Rattle.text.proofs.ended.Tie as tie
-use Rattle.text.proofs.ended.Reads as reads
-use Rattle.text.proofs.ended.Lts as lts
 
--- src/lib.rt:208:27
 enum-told : tie.Need-enum-told
 enum-told c = search needs
 
--- src/lib.rt:209:45
 enum-told-2 : tie.Need-enum-told-2
 enum-told-2 c = search needs
 
--- src/lib.rt:210:25
 enum-told-3 : tie.Need-enum-told-3
 enum-told-3 c = search needs
 
--- src/lib.rt:203:1
 returns : tie.Need-returns
 returns c = λ e. absurd (false≢true e)
 
--- src/lib.rt:203:1
 returns-2 : tie.Need-returns-2
 returns-2 c = λ e. absurd (false≢true e)
 
--- src/lib.rt:203:1
 returns-3 : tie.Need-returns-3
 returns-3 c = λ e line room x. owes-nothing (c .before .before .args .s) line room x (c .enum-told3 .given .1)
 

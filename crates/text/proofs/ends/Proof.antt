@@ -1,25 +1,20 @@
-use Rattle.text.proofs.Laws.{ends-some, ends-none}
 use borrow.Author.Needs.{needs}
+use Rattle.text.proofs.Laws.{ends-some, ends-none}
 use Rattle.text.proofs.ends.Statement.{statement}
 use Rattle.text.proofs.ends.Tie as tie
-use Rattle.text.proofs.ends.Reads as reads
-use Rattle.text.proofs.ends.Lts as lts
 
--- src/lib.rt:128:9
 returns : tie.Need-returns
 returns c = ends-none (c .before .args .line .now) _ (c .before .args .b) (c .if1 .taken)
 
--- src/lib.rt:130:23
 sub-result : tie.Need-sub-result
 sub-result c = search needs
 
--- src/lib.rt:130:18
 shared-slice-read-result : tie.Need-shared-slice-read-result
 shared-slice-read-result c = search needs
 
--- src/lib.rt:123:1
 returns-2 : tie.Need-returns-2
-returns-2 c = ends-some (c .before .before .args .line .now) _ (c .before .before .args .b) (c .before .before .pre) (c .before .if1 .left)
+returns-2 c =
+    ends-some (c .before .before .args .line .now) _ (c .before .before .args .b) (c .before .before .pre) (c .before .if1 .left)
 
 pub ends-spec : {M : Type 1} → statement M
 ends-spec = tie.close (tie.spec returns sub-result shared-slice-read-result returns-2)

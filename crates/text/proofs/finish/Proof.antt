@@ -1,37 +1,40 @@
-use native.Mathlib.Omega.{arith}
-use Rattle.text.proofs.Laws.{owes-none, owes-line}
 use mathlib.Core.Path.{sym}
+use native.Mathlib.Omega.{arith}
 use lib.Seq.{length-take-le}
 use borrow.Author.Needs.{needs}
+use Rattle.text.proofs.Laws.{owes-none, owes-line}
 use Rattle.text.proofs.finish.Statement.{statement}
 use Rattle.text.proofs.finish.Tie as tie
-use Rattle.text.proofs.finish.Reads as reads
-use Rattle.text.proofs.finish.Lts as lts
-use Rattle.text.proofs.answer_line.Reads as answer-line-reads
 
--- src/lib.rt:195:9
 returns : tie.Need-returns
-returns c = (omega arith, sym (owes-none (c .before .before .before .before .args .s) (c .before .before .before .before .args .line .now) (c .before .before .before .before .args .room .now) (c .if1 .taken)))
+returns c =
+    let c4 = c .before .before .before .before in
+    let a = c4 .args in
+    (omega arith, sym (owes-none (a .s) (a .line .now) (a .room .now) (c .if1 .taken)))
 
--- src/lib.rt:198:32
 slice-aggregate-answer-line : tie.Need-slice-aggregate-answer-line
-slice-aggregate-answer-line c = sym (length-take-le (c .before .before .before .before .before .args .s .held) (c .before .before .before .before .before .args .line .now) (omega (arith, c .before .before .before .before .before .pre .0 .0, c .before .before .before .before .before .pre .0 .1)))
+slice-aggregate-answer-line c =
+    let c5 = c .before .before .before .before .before in
+    let a = c5 .args in
+    sym (length-take-le (a .s .held) (a .line .now) (omega (arith, c5 .pre .0 .0, c5 .pre .0 .1)))
 
--- src/lib.rt:198:9
 answer-line-requires : tie.Need-answer-line-requires
 answer-line-requires c κs = search needs
 
--- src/lib.rt:189:1
 same-length : tie.Need-same-length
 same-length c = search needs
 
--- src/lib.rt:189:1
 same-length-2 : tie.Need-same-length-2
 same-length-2 c = search needs
 
--- src/lib.rt:189:1
 returns-2 : tie.Need-returns-2
-returns-2 c = owes-line (c .before .before .before .before .before .before .before .before .before .before .before .before .args .s) (c .before .before .before .before .before .before .before .before .before .before .before .before .args .line .now) (c .before .before .before .before .before .before .before .before .before .before .before .before .args .room .now) (c .before .before .before .before .before .before .before .before .before .before .before .before .args .out .now) _ _ _ (c .before .before .before .before .before .before .before .before .before .before .before .before .pre .0) (c .before .before .before .before .before .before .before .before .if1 .left) (c .before .before .before .before .before .before .before .before .before .before .before .before .pre .1) (c .before .before .before .before .answer-line .ensures)
+returns-2 c =
+    let c4 = c .before .before .before .before in
+    let c8 = c4 .before .before .before .before in
+    let c12 = c8 .before .before .before .before in
+    let a = c12 .args in
+    owes-line (a .s) (a .line .now) (a .room .now) (a .out .now) _ _ _ (c12 .pre .0) (c8 .if1 .left) (c12 .pre .1)
+    (c4 .answer-line .ensures)
 
 pub finish-spec : {M : Type 1} → statement M
 finish-spec =

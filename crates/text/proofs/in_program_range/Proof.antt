@@ -1,18 +1,13 @@
-use mathlib.Core.Path.{ap}
 use mathlib.Core.Bool.{Bool, _&&_}
+use mathlib.Core.Path.{ap}
 use lib.Dec.{leb}
 use borrow.Author.Needs.{needs}
 use Rattle.text.proofs.in_program_range.Statement.{statement}
 use Rattle.text.proofs.in_program_range.Tie as tie
-use Rattle.text.proofs.in_program_range.Reads as reads
-use Rattle.text.proofs.in_program_range.Lts as lts
-use Rattle.layout.proofs.in_range.Reads as in-range-reads
 
--- src/lib.rt:54:5
 in-range-requires : tie.Need-in-range-requires
 in-range-requires c κs = search needs
 
--- src/lib.rt:51:1
 returns : tie.Need-returns
 returns c = ap (λ (a : Bool). a && leb (c .before .args .n) 8 && leb (c .before .args .e) 256) (c .in-range .ensures)
 

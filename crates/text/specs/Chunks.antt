@@ -1,0 +1,37 @@
+-- However the input is cut into chunks, the outputs joined are `textOutput` of the whole: the statement.
+use mathlib.Core.Path.{_≡_}
+use mathlib.Core.List.{List, [], _∷_, _++_}
+use Prim.Native.Nat.{ℕ}
+use Rattle.rules.specs.Text.{textOutput}
+use Rattle.text.specs.declared.Session.{Session}
+use Rattle.text.specs.Session.{owedBy}
+
+-- a call of `feed`: the chunk, the bytes that it wrote, and the session, the held line and the room as it left them
+pub record Turn : Type 0 where
+  pub chunk : List ℕ
+  pub written : List ℕ
+  pub session : Session
+  pub line : List ℕ
+  pub room : List ℕ
+
+-- Calls of `feed` one after the other, each with what the one before left, as its contract has them. Then the rest of the input gets
+-- `last`: from `finish` where there is no rest, and nothing where the session has ended.
+abbrev pub Fed : Session → List ℕ → List ℕ → List Turn → List ℕ → List ℕ → Type 0
+Fed s line room [] rest last = last ≡ owedBy s line room rest
+Fed s line room (t ∷ ts) rest last =
+    ((x : List ℕ) → owedBy s line room (t .chunk ++ x) ≡ t .written ++ owedBy (t .session) (t .line) (t .room) x)
+    × Fed (t .session) (t .line) (t .room) ts rest last
+
+abbrev pub chunks : List Turn → List ℕ
+chunks [] = []
+chunks (t ∷ ts) = t .chunk ++ chunks ts
+
+abbrev pub outputs : List Turn → List ℕ
+outputs [] = []
+outputs (t ∷ ts) = t .written ++ outputs ts
+
+-- for a session that starts as `start` has it
+abbrev pub Whole : Type 0
+Whole =
+    (s : Session) (line room : List ℕ) → ((x : List ℕ) → owedBy s line room x ≡ textOutput x) → (ts : List Turn) (rest last : List ℕ)
+    → Fed s line room ts rest last → outputs ts ++ last ≡ textOutput (chunks ts ++ rest)
