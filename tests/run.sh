@@ -61,6 +61,15 @@ program_made() {
     }
 }
 
+# every example gets the answers that stand beside it, and two of them are what the gate runs the program on
+examples_answered() {
+    local name
+    for name in listing worked overtaking restart; do
+        target/bin/ckpt <"examples/$name.csv" | cmp - "examples/$name.answers.csv" || return 1
+    done
+    cmp examples/listing.csv crates/ckpt/stdin && cmp examples/worked.csv crates/worked/stdin
+}
+
 worked_host() {
     ${CC:-cc} -std=c99 -O2 -Wall -Wextra -Wpedantic -Werror -o "$made/worked" examples/worked.c target/staticlib/libengine.a &&
         "$made/worked"
@@ -69,6 +78,7 @@ worked_host() {
 check "the engine's archive" rt staticlib engine
 check "the worked controller from C" worked_host
 check "the text program is there" program_made
+check "the examples are answered as written" examples_answered
 check "the reference engine is as it was taken over" reference_unchanged
 check "the vectors are what the reference engine gives" vectors_current Vectors.antt
 check "the text vectors are what the reference engine gives" vectors_current TextVectors.antt text
