@@ -7,8 +7,8 @@ use native.Mathlib.Omega.{arith}
 use native.Mathlib.Numerals.{add-one}
 use native.Mathlib.Nat.{not-suc-le-zero}
 use lib.Dec.{eqb, ltb}
-use lib.ListN.{length, getD, set, take, drop, replicate, length-append, length-replicate, length-set, drop-of-length-le}
-use lib.Seq.{take-at, length-take-le, drop-cons}
+use lib.ListN.{length, set, take, drop, replicate, length-append, length-replicate, length-set, drop-of-length-le}
+use lib.Seq.{take-at, drop-cons}
 use borrow.Author.Tests.{lt-ltb, le-ltb, ltb-true, ltb-false}
 use Rattle.xdr.specs.Words.{word, words}
 use Rattle.xdr.proofs.Laws.{words-length, words-get}

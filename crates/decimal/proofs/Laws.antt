@@ -1,11 +1,11 @@
 -- The digits of a number, one power of ten after the other.
 use mathlib.Core.Path.{_≡_, refl, _∙_, sym, ap, subst}
-use mathlib.Core.Bool.{Bool, true, false, cond, _&&_}
-use mathlib.Core.List.{List, [], _∷_, _++_, append-nil, append-assoc}
+use mathlib.Core.Bool.{Bool, true, false, _&&_}
+use mathlib.Core.List.{List, [], _∷_, _++_, append-nil}
 use Prim.Native.Nat.{ℕ, zero, suc, _+_, _-_, _*_, _/_, _%_, _^_, _≤_, _<_, suc-le-suc}
 use native.Mathlib.Omega.{arith}
 use native.Mathlib.Nat.{pow-suc, pow-succ', div-div-eq-div-mul, div-lt-iff-lt-mul, le-div-iff-mul-le, div-one, pow-le-pow-right, not-suc-le-zero, le-of-suc-le-suc, zero-add, add-zero, suc-add, add-suc}
-use lib.Dec.{T, leb, eqb, ltb, eqb→eq}
+use lib.Dec.{T, leb, eqb, eqb→eq}
 use lib.ListN.{length, getD, take, set, length-set}
 use lib.Seq.{append-snoc}
 use borrow.Author.Tests.{lt-ltb, le-ltb, leb-true, leb-false}

@@ -1,6 +1,6 @@
 // Decimal writing (document 01, "The text program").
 ghost use mathlib.Core.Path.{_≡_};
-ghost use Prim.Native.Nat.{_+_, _*_, _/_, _%_, _^_, _≤_, _<_};
+ghost use Prim.Native.Nat.{_+_, _/_, _%_, _^_, _≤_, _<_};
 ghost use lib.ListN.{length};
 ghost use Rattle.rules.specs.Text.{decimal};
 ghost use Rattle.decimal.specs.Appended.{Appended, Digits};

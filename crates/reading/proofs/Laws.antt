@@ -2,15 +2,15 @@
 use mathlib.Core.Path.{_≡_, refl, _∙_, sym, ap, subst}
 use mathlib.Core.Bool.{Bool, true, false, cond, _&&_, false≢true, and-eq-true-iff}
 use mathlib.Core.List.{List, [], _∷_, _++_}
-use Prim.Native.Nat.{ℕ, zero, suc, _+_, _-_, _*_, _^_, _≤_, _<_}
+use Prim.Native.Nat.{ℕ, suc, _+_, _-_, _*_, _^_, _≤_, _<_}
 use native.Mathlib.Omega.{arith}
 use native.Mathlib.Numerals.{add-one}
 use native.Mathlib.Nat.{pow-suc, pow-le-pow-right, not-suc-le-zero}
-use lib.Dec.{leb, eqb, ltb}
+use lib.Dec.{leb, eqb}
 use lib.ListN.{length, getD, take, drop, drop-of-length-le, length-drop}
 use lib.Seq.{drop-cons, take-suc, take-all, getD-drop}
 use borrow.Author.Tests.{lt-ltb, le-ltb, le-leb, lt-leb, eq-eqb, ne-eqb, eqb-true, leb-true}
-use Rattle.rules.specs.Text.{Field, empty, number, other, Reading, unreadable, Word, freshWord, checkpointWord, sendWord, receiptWord, lineWord, failedWord, noWord, Ask, oneNumber, twoNumbers, threeNumbers, asked, wordOf, same, digit, digits, valueFrom, fieldOf, fieldsFrom, readLine}
+use Rattle.rules.specs.Text.{Field, empty, number, other, Reading, unreadable, Word, freshWord, checkpointWord, sendWord, receiptWord, lineWord, failedWord, noWord, freshBytes, checkpointBytes, sendBytes, receiptBytes, lineBytes, failedBytes, Ask, oneNumber, twoNumbers, threeNumbers, asked, wordOf, same, digit, digits, valueFrom, fieldOf, fieldsFrom, readLine}
 use Rattle.reading.specs.declared.Field as reading
 use Rattle.reading.specs.Meanings.{fieldAs, Ends}
 
@@ -201,12 +201,12 @@ some-length (b ∷ s) ne = omega arith
 
 -- what holds of each word that w may be holds of the word that it is
 word-cases : (P : Word → Type 0) (w : List ℕ)
-    → (same w (102 ∷ 114 ∷ 101 ∷ 115 ∷ 104 ∷ []) ≡ true → P freshWord)
-    → (same w (99 ∷ 104 ∷ 101 ∷ 99 ∷ 107 ∷ 112 ∷ 111 ∷ 105 ∷ 110 ∷ 116 ∷ []) ≡ true → P checkpointWord)
-    → (same w (115 ∷ 101 ∷ 110 ∷ 100 ∷ []) ≡ true → P sendWord)
-    → (same w (114 ∷ 101 ∷ 99 ∷ 101 ∷ 105 ∷ 112 ∷ 116 ∷ []) ≡ true → P receiptWord)
-    → (same w (108 ∷ 105 ∷ 110 ∷ 101 ∷ []) ≡ true → P lineWord)
-    → (same w (102 ∷ 97 ∷ 105 ∷ 108 ∷ 101 ∷ 100 ∷ []) ≡ true → P failedWord)
+    → (same w freshBytes ≡ true → P freshWord)
+    → (same w checkpointBytes ≡ true → P checkpointWord)
+    → (same w sendBytes ≡ true → P sendWord)
+    → (same w receiptBytes ≡ true → P receiptWord)
+    → (same w lineBytes ≡ true → P lineWord)
+    → (same w failedBytes ≡ true → P failedWord)
     → P noWord
     → P (wordOf w)
 word-cases P w a b c d e f g = choose _ a (choose _ b (choose _ c (choose _ d (choose _ e (choose _ f g)))))
@@ -223,21 +223,21 @@ no : {A : Type 0} {r s : Bool} → r ≡ s → r ≡ false → s ≡ true → A
 no e f t = absurd (false≢true (sym f ∙ e ∙ t))
 
 pub none-of-one : (w : List ℕ) (a : ℕ) {r s t : Bool}
-    → r ≡ same w (99 ∷ 104 ∷ 101 ∷ 99 ∷ 107 ∷ 112 ∷ 111 ∷ 105 ∷ 110 ∷ 116 ∷ []) → r ≡ false
-    → s ≡ same w (108 ∷ 105 ∷ 110 ∷ 101 ∷ []) → s ≡ false
-    → t ≡ same w (102 ∷ 97 ∷ 105 ∷ 108 ∷ 101 ∷ 100 ∷ []) → t ≡ false
+    → r ≡ same w checkpointBytes → r ≡ false
+    → s ≡ same w lineBytes → s ≡ false
+    → t ≡ same w failedBytes → t ≡ false
     → unreadable ≡ asked (wordOf w) (number a) empty empty
 none-of-one w a e f g h i j =
     word-cases (λ W. unreadable ≡ asked W (number a) empty empty) w (λ _. refl) (no e f) (λ _. refl) (λ _. refl) (no g h) (no i j) refl
 
 pub none-of-two : (w : List ℕ) (a b : ℕ) {r s : Bool}
-    → r ≡ same w (115 ∷ 101 ∷ 110 ∷ 100 ∷ []) → r ≡ false
-    → s ≡ same w (102 ∷ 114 ∷ 101 ∷ 115 ∷ 104 ∷ []) → s ≡ false
+    → r ≡ same w sendBytes → r ≡ false
+    → s ≡ same w freshBytes → s ≡ false
     → unreadable ≡ asked (wordOf w) (number a) (number b) empty
 none-of-two w a b e f g h =
     word-cases (λ W. unreadable ≡ asked W (number a) (number b) empty) w (no g h) (λ _. refl) (no e f) (λ _. refl) (λ _. refl) (λ _. refl) refl
 
-pub none-of-three : (w : List ℕ) (a b c : ℕ) {r : Bool} → r ≡ same w (114 ∷ 101 ∷ 99 ∷ 101 ∷ 105 ∷ 112 ∷ 116 ∷ []) → r ≡ false
+pub none-of-three : (w : List ℕ) (a b c : ℕ) {r : Bool} → r ≡ same w receiptBytes → r ≡ false
     → unreadable ≡ asked (wordOf w) (number a) (number b) (number c)
 none-of-three w a b c e f =
     word-cases (λ W. unreadable ≡ asked W (number a) (number b) (number c)) w (λ _. refl) (λ _. refl) (λ _. refl) (no e f) (λ _. refl) (λ _. refl) refl

@@ -2,10 +2,10 @@
 use mathlib.Core.Path.{_≡_, refl}
 use mathlib.Core.Bool.{Bool, true, false, cond, _&&_}
 use mathlib.Core.List.{List, [], _∷_, _++_}
-use lib.Count.{ones, onesIn}
 use Prim.Native.Nat.{ℕ, zero, suc, _+_, _-_, _*_, _/_, _%_}
 use lib.Dec.{leb, ltb, eqb}
 use lib.ListN.{length, getD, take, replicate}
+use lib.Count.{ones, onesIn}
 use Rattle.xdr.specs.Words.{word}
 use Rattle.rules.specs.Table.{inRange, size, layout, decoded, wellLaid}
 use Rattle.rules.specs.Steps.{Call, checkpoint, send, receipt}
@@ -75,7 +75,7 @@ pub data Reading : Type 0 where
   call : Ask → Reading
   unreadable : Reading
 
--- the words
+-- the words, and what is none
 pub data Word : Type 0 where
   freshWord : Word
   checkpointWord : Word
@@ -85,6 +85,25 @@ pub data Word : Type 0 where
   failedWord : Word
   noWord : Word
 
+-- their bytes
+abbrev pub freshBytes : List ℕ
+freshBytes = 102 ∷ 114 ∷ 101 ∷ 115 ∷ 104 ∷ []
+
+abbrev pub checkpointBytes : List ℕ
+checkpointBytes = 99 ∷ 104 ∷ 101 ∷ 99 ∷ 107 ∷ 112 ∷ 111 ∷ 105 ∷ 110 ∷ 116 ∷ []
+
+abbrev pub sendBytes : List ℕ
+sendBytes = 115 ∷ 101 ∷ 110 ∷ 100 ∷ []
+
+abbrev pub receiptBytes : List ℕ
+receiptBytes = 114 ∷ 101 ∷ 99 ∷ 101 ∷ 105 ∷ 112 ∷ 116 ∷ []
+
+abbrev pub lineBytes : List ℕ
+lineBytes = 108 ∷ 105 ∷ 110 ∷ 101 ∷ []
+
+abbrev pub failedBytes : List ℕ
+failedBytes = 102 ∷ 97 ∷ 105 ∷ 108 ∷ 101 ∷ 100 ∷ []
+
 abbrev pub same : List ℕ → List ℕ → Bool
 same [] [] = true
 same [] (b ∷ t) = false
@@ -93,12 +112,12 @@ same (a ∷ s) (b ∷ t) = eqb a b && same s t
 
 abbrev pub wordOf : List ℕ → Word
 wordOf s =
-    cond (same s (102 ∷ 114 ∷ 101 ∷ 115 ∷ 104 ∷ [])) freshWord
-    (cond (same s (99 ∷ 104 ∷ 101 ∷ 99 ∷ 107 ∷ 112 ∷ 111 ∷ 105 ∷ 110 ∷ 116 ∷ [])) checkpointWord
-    (cond (same s (115 ∷ 101 ∷ 110 ∷ 100 ∷ [])) sendWord
-    (cond (same s (114 ∷ 101 ∷ 99 ∷ 101 ∷ 105 ∷ 112 ∷ 116 ∷ [])) receiptWord
-    (cond (same s (108 ∷ 105 ∷ 110 ∷ 101 ∷ [])) lineWord
-    (cond (same s (102 ∷ 97 ∷ 105 ∷ 108 ∷ 101 ∷ 100 ∷ [])) failedWord noWord)))))
+    cond (same s freshBytes) freshWord
+    (cond (same s checkpointBytes) checkpointWord
+    (cond (same s sendBytes) sendWord
+    (cond (same s receiptBytes) receiptWord
+    (cond (same s lineBytes) lineWord
+    (cond (same s failedBytes) failedWord noWord)))))
 
 -- what a line says with a field that must be a number, and with one that must be empty
 abbrev pub withNumber : Field → (ℕ → Reading) → Reading

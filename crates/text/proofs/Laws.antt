@@ -1,6 +1,6 @@
 -- A line answered, and a line that is held.
 use mathlib.Core.Path.{_≡_, refl, _∙_, sym, ap, subst}
-use mathlib.Core.Logic.{_⊎_, inl, inr}
+use mathlib.Core.Logic.{inl, inr}
 use mathlib.Core.Bool.{Bool, true, false, not, cond, _&&_, and-eq-true-iff, false≢true}
 use mathlib.Core.List.{List, [], _∷_, _++_, append-assoc, append-nil}
 use Prim.Native.Nat.{ℕ, zero, suc, _+_, _-_, _*_, _≤_, _<_}
@@ -9,7 +9,7 @@ use native.Mathlib.Numerals.{add-one}
 use native.Mathlib.Nat.{not-suc-le-zero, mul-le-mul, suc-ne-zero}
 use lib.Dec.{leb, eqb}
 use lib.ListN.{length, getD, set, take, drop, replicate, length-append, length-replicate, length-set}
-use lib.Seq.{take-at, take-take, take-suc, take-suc-set, take-set-le, take-all, length-take-le, getD-take, getD-at}
+use lib.Seq.{take-at, take-take, take-suc, take-suc-set, take-all, length-take-le, getD-take, getD-at}
 use types.Run.{OneOf}
 use denote.Enum.Declared.{tagOf}
 use borrow.Author.Tests.{leb-true, eq-eqb, lt-leb}
@@ -26,7 +26,7 @@ use Rattle.decimal.proofs.Texts.{appended-none, appended-as}
 use Rattle.answers.specs.declared.Ran.{Ran}
 use Rattle.answers.specs.Shows.{Shows, shown}
 use Rattle.text.specs.declared.Stage.{Stage}
-use Rattle.text.specs.declared.Stage.the-variants.{Waiting, Running, Ended}
+use Rattle.text.specs.declared.Stage.the-variants.{Running, Ended}
 use Rattle.text.specs.declared.Session.{Session}
 use Rattle.text.specs.declared.Reply.{Reply}
 use Rattle.text.specs.Session.{stageOf, Within, Fits, Replies, owedBy, Ready, Took}

@@ -1,5 +1,6 @@
 -- What the functions of the text program promise, by document 01's definitions.
 use mathlib.Core.Path.{_≡_}
+use mathlib.Core.Bool.{Bool, true, false}
 use mathlib.Core.List.{List, _++_}
 use Prim.Native.Nat.{ℕ, _+_, _*_, _≤_}
 use lib.ListN.{length, take}
@@ -15,6 +16,11 @@ abbrev pub stageOf : Stage → List ℕ → text.Stage
 stageOf Waiting room = text.waiting
 stageOf (Running n size) room = text.running n (take size room)
 stageOf Ended room = text.ended
+
+abbrev pub isEnded : Stage → Bool
+isEnded Waiting = false
+isEnded (Running n size) = false
+isEnded Ended = true
 
 -- a table lies in the room, which is that of the largest table that the program takes
 abbrev pub Within : Stage → Type 0

@@ -10,7 +10,7 @@ ghost use lib.ListN.{length, take};
 ghost use Rattle.rules.specs.Text.{aloneLine, inProgramRange, endsInCR, began, opened, running, replied, readLine, textOutput};
 ghost use Rattle.decimal.specs.Appended.{Appended};
 ghost use Rattle.reading.specs.Meanings.{readingOf};
-ghost use Rattle.text.specs.Session.{Fits, Replies, Ready, Took, stageOf, owedBy};
+ghost use Rattle.text.specs.Session.{Fits, Replies, Ready, Took, stageOf, isEnded, owedBy};
 use reading::Call;
 
 // Where the program stands: before its first line, with a table of n processes in the first bytes of its room, or at its end.
@@ -199,9 +199,9 @@ pub fn finish(s: Session, line: &[u8], room: &mut [u8], out: &mut [u8]) -> usize
     r.written
 }
 
-// Whether nothing more will be written.
+// Whether the program is at its end, so that nothing more will be written.
 pub fn ended(s: Session) -> bool
-    ensures { λ r. ⌜ (r ≡ true → (line : List ℕ) → (room : List ℕ) → (x : List ℕ) → owedBy s line room x ≡ []) ⌝ }
+    ensures { λ r. ⌜ (r ≡ isEnded (s .stage)) × (r ≡ true → (line : List ℕ) → (room : List ℕ) → (x : List ℕ) → owedBy s line room x ≡ []) ⌝ }
 {
     let stage = s.stage;
     match stage {
