@@ -13,10 +13,7 @@ use borrow.Author.Tests.{lt-ltb, le-ltb, le-leb, lt-leb, eq-eqb, ne-eqb, eqb-tru
 use Rattle.rules.specs.Text.{Field, empty, number, other, Reading, unreadable, Word, freshWord, checkpointWord, sendWord, receiptWord, lineWord, failedWord, noWord, freshBytes, checkpointBytes, sendBytes, receiptBytes, lineBytes, failedBytes, Ask, oneNumber, twoNumbers, threeNumbers, asked, wordOf, same, digit, digits, valueFrom, fieldOf, fieldsFrom, readLine}
 use Rattle.reading.specs.declared.Field as reading
 use Rattle.reading.specs.Meanings.{fieldAs, Ends}
-
-and-false : (a : Bool) → (a && false) ≡ false
-and-false true = refl
-and-false false = refl
+use Rattle.reading.proofs.Tests.{and-false, picks, skips}
 
 -- the bytes from i on begin with byte i
 pub drop-next : (s : List ℕ) (i : ℕ) → i < length s → drop i s ≡ getD s i 0 ∷ drop (i + 1) s
@@ -97,7 +94,7 @@ digit-bounds b e d =
 -- what the tests of a number give where they fail
 no-number : (s : List ℕ) → 0 < length s → (leb (length s) 10 && digits s && leb (valueFrom 0 s) 4294967295) ≡ false → other ≡ fieldOf s
 no-number [] pos e = absurd (not-suc-le-zero pos)
-no-number (b ∷ s) pos e = sym (ap (λ (a : Bool). cond a (number (valueFrom 0 (b ∷ s))) other) e)
+no-number (b ∷ s) pos e = sym (skips _ _ e)
 
 pub valued-not : (s : List ℕ) (v i : ℕ) → Valued s v i → i < length s → digit (getD s i 0) ≡ false → other ≡ fieldOf s
 valued-not s v i h lt d =
@@ -159,18 +156,19 @@ comma-next s from i h lt =
     let more : i + 1 - from ≡ suc d = omega (arith, h .0) in
     let inside : d < length (drop from s) = omega (arith, length-drop from s, lt, h .0) in
     let byte : getD (drop from s) d 0 ≡ getD s i 0 = getD-drop from s d 0 ∙ ap (λ (m : ℕ). getD s m 0) back in
-    let held : take d (drop from s) ++ (getD s i 0 ∷ []) ≡ take (i + 1 - from) (drop from s) =
-    ap (λ (b : ℕ). take d (drop from s) ++ (b ∷ [])) (sym byte) ∙ sym (take-suc (drop from s) d 0 inside) ∙ ap (λ (m : ℕ). take m (drop from s)) (sym more) in
+    let rest = drop from s in
+    let held : take d rest ++ (getD s i 0 ∷ []) ≡ take (i + 1 - from) rest =
+    ap (λ (b : ℕ). take d rest ++ (b ∷ [])) (sym byte) ∙ sym (take-suc rest d 0 inside) ∙ ap (λ (m : ℕ). take m rest) (sym more) in
     h .2
-    ∙ ap (fieldsFrom (take d (drop from s))) (drop-next s i lt)
-    ∙ ap (λ (l : List ℕ). cond (eqb (getD s i 0) 44) (take d (drop from s) ∷ fieldsFrom [] (drop (i + 1) s)) (fieldsFrom l (drop (i + 1) s))) held
+    ∙ ap (fieldsFrom (take d rest)) (drop-next s i lt)
+    ∙ ap (λ (l : List ℕ). cond (eqb (getD s i 0) 44) (take d rest ∷ fieldsFrom [] (drop (i + 1) s)) (fieldsFrom l (drop (i + 1) s))) held
 
 pub no-comma-on : (s : List ℕ) (from i : ℕ) → NoComma s from i → i < length s → (getD s i 0 ≡ 44 → ⊥) → NoComma s from (i + 1)
 no-comma-on s from i h lt ne = (
   omega (arith, h .0),
   omega arith,
   comma-next s from i h lt
-      ∙ ap (λ (a : Bool). cond a (take (i - from) (drop from s) ∷ fieldsFrom [] (drop (i + 1) s)) (fieldsFrom (take (i + 1 - from) (drop from s)) (drop (i + 1) s))) (ne-eqb _ _ ne),
+      ∙ skips _ _ (ne-eqb _ _ ne),
 )
 
 pub comma-found : (s : List ℕ) (from i : ℕ) → NoComma s from i → i < length s → getD s i 0 ≡ 44 → Ends s from i
@@ -178,8 +176,8 @@ comma-found s from i h lt e = (
   h .0,
   h .1,
   comma-next s from i h lt
-      ∙ ap (λ (a : Bool). cond a (take (i - from) (drop from s) ∷ fieldsFrom [] (drop (i + 1) s)) (fieldsFrom (take (i + 1 - from) (drop from s)) (drop (i + 1) s))) (eq-eqb _ _ e)
-      ∙ ap (λ (a : Bool). cond a (take (i - from) (drop from s) ∷ fieldsFrom [] (drop (i + 1) s)) (drop from s ∷ [])) (sym (lt-ltb i (length s) lt)),
+      ∙ picks _ _ (eq-eqb _ _ e)
+      ∙ sym (picks _ _ (lt-ltb i (length s) lt)),
 )
 
 pub line-found : (s : List ℕ) (from i : ℕ) → NoComma s from i → length s ≤ i → Ends s from i
@@ -190,7 +188,7 @@ line-found s from i h le =
       h .2
           ∙ ap (fieldsFrom (take (i - from) (drop from s))) (drop-of-length-le s le)
           ∙ ap (λ (l : List ℕ). l ∷ []) (take-all (i - from) (drop from s) short)
-          ∙ ap (λ (a : Bool). cond a (take (i - from) (drop from s) ∷ fieldsFrom [] (drop (i + 1) s)) (drop from s ∷ [])) (sym (le-ltb i (length s) le)),
+          ∙ sym (skips _ _ (le-ltb i (length s) le)),
     )
 
 pub some-length : (s : List ℕ) → (length s ≡ 0 → ⊥) → 0 < length s
@@ -266,11 +264,10 @@ comma-cut : (s : List ℕ) (from r : ℕ) → Ends s from r → (r ≡ length s 
     → fieldsFrom [] (drop from s) ≡ take (r - from) (drop from s) ∷ fieldsFrom [] (drop (r + 1) s)
 comma-cut s from r h ne =
     let lt : r < length s = omega (arith, h .1, ne) in
-    h .2 ∙ ap (λ (a : Bool). cond a (take (r - from) (drop from s) ∷ fieldsFrom [] (drop (r + 1) s)) (drop from s ∷ [])) (lt-ltb r (length s) lt)
+    h .2 ∙ picks _ _ (lt-ltb r (length s) lt)
 
 line-cut : (s : List ℕ) (from r : ℕ) → Ends s from r → r ≡ length s → fieldsFrom [] (drop from s) ≡ drop from s ∷ []
-line-cut s from r h e =
-    h .2 ∙ ap (λ (a : Bool). cond a (take (r - from) (drop from s) ∷ fieldsFrom [] (drop (r + 1) s)) (drop from s ∷ [])) (le-ltb r (length s) (omega (arith, e)))
+line-cut s from r h e = h .2 ∙ skips _ _ (le-ltb r (length s) (omega (arith, e)))
 
 -- what four fields say
 abbrev saidBy : List (List ℕ) → Reading
@@ -281,11 +278,12 @@ not-four : (s : List ℕ) (k : ℕ) → length (fieldsFrom [] s) ≡ k → eqb k
 unfolding readLine
 not-four s k e f =
     let h : eqb (length (fieldsFrom [] s)) 4 ≡ false = ap (λ (m : ℕ). eqb m 4) e ∙ f in
-    sym (ap (λ (a : Bool). cond a (saidBy (fieldsFrom [] s)) unreadable) (ap (λ (a : Bool). leb (length s) 64 && a) h ∙ and-false (leb (length s) 64)))
+    sym (skips (saidBy (fieldsFrom [] s)) unreadable (ap (λ (a : Bool). leb (length s) 64 && a) h ∙ and-false (leb (length s) 64)))
 
 pub long-line : (s : List ℕ) → 64 < length s → unreadable ≡ readLine s
 unfolding readLine
-long-line s lt = sym (ap (λ (a : Bool). cond (a && eqb (length (fieldsFrom [] s)) 4) (saidBy (fieldsFrom [] s)) unreadable) (lt-leb (length s) 64 lt))
+long-line s lt =
+    sym (skips (saidBy (fieldsFrom [] s)) unreadable (ap (λ (a : Bool). a && eqb (length (fieldsFrom [] s)) 4) (lt-leb (length s) 64 lt)))
 
 pub one-field : (s : List ℕ) (a : ℕ) → Ends s 0 a → a ≡ length s → unreadable ≡ readLine s
 one-field s a h e = not-four s 1 (ap length (line-cut s 0 a h e)) refl

@@ -21,6 +21,7 @@ use Rattle.reading.specs.declared.Call.{Call}
 use Rattle.reading.specs.declared.Call.the-variants.{Fresh, Checkpoint, Send, Receipt, Line, Failed, Unreadable}
 use Rattle.reading.proofs.Call.{the-type}
 use Rattle.reading.specs.Meanings.{readingOf}
+use Rattle.reading.proofs.Tests.{and-false, picks, skips}
 use Rattle.decimal.specs.Appended.{Appended}
 use Rattle.decimal.proofs.Texts.{appended-none, appended-as}
 use Rattle.answers.specs.declared.Ran.{Ran}
@@ -30,10 +31,6 @@ use Rattle.text.specs.declared.Stage.the-variants.{Running, Ended}
 use Rattle.text.specs.declared.Session.{Session}
 use Rattle.text.specs.declared.Reply.{Reply}
 use Rattle.text.specs.Session.{stageOf, Within, Fits, Replies, owedBy, Ready, Took}
-
-and-false : (a : Bool) → (a && false) ≡ false
-and-false true = refl
-and-false false = refl
 
 -- ---- a table in its room
 
@@ -74,8 +71,9 @@ pub replies-as : {want want′ : text.Reply} {r : Reply} {before out room : List
 replies-as {want} {want′} {r} {before} {out} {room} {at} e h = subst (λ (w : text.Reply). Replies w r before at out room) e h
 
 -- an answer in place
-pub replies-answer : (n m : ℕ) (o : Outcome) (t : List ℕ) {before out : List ℕ} {at x : ℕ} (room : List ℕ) → Appended before at out x (text.answerLine n o) × (x ≤ at + 128)
-    → length t ≡ length (take m room) → length (t ++ drop m room) ≡ length room → length room ≡ 24680 → m ≤ 24680 → n ≤ 8 → t ≡ o .table
+pub replies-answer : (n m : ℕ) (o : Outcome) (t : List ℕ) {before out : List ℕ} {at x : ℕ} (room : List ℕ)
+    → Appended before at out x (text.answerLine n o) × (x ≤ at + 128) → length t ≡ length (take m room) → length (t ++ drop m room) ≡ length room
+    → length room ≡ 24680 → m ≤ 24680 → n ≤ 8 → t ≡ o .table
     → Replies (text.reply (text.answerLine n o) (text.running n (o .table))) (record { stage = Running n m; written = x }) before at out (t ++ drop m room)
 replies-answer n m o t room put lent back len le eight e =
     record {
@@ -136,7 +134,8 @@ none-is (inr (inr (inr (inr (inl e))))) = suc-ne-zero _ (sym e)
 none-is (inr (inr (inr (inr (inr e))))) = suc-ne-zero _ (sym e)
 
 -- a first line that is no fresh
-pub no-fresh : (x : Call) → OneOf (1 ∷ 2 ∷ 3 ∷ 4 ∷ 5 ∷ 6 ∷ []) (tagOf the-type x) → text.reply (text.aloneLine 99) text.ended ≡ text.opened (readingOf x)
+pub no-fresh : (x : Call) → OneOf (1 ∷ 2 ∷ 3 ∷ 4 ∷ 5 ∷ 6 ∷ []) (tagOf the-type x)
+    → text.reply (text.aloneLine 99) text.ended ≡ text.opened (readingOf x)
 no-fresh (Fresh n e) k = absurd (none-is k)
 no-fresh (Checkpoint p) k = refl
 no-fresh (Send p q) k = refl
@@ -151,7 +150,8 @@ opened-as {x} {n} {e} {b} h k =
     ap (λ (c : Bool). cond c (text.began n e) (text.reply (text.aloneLine 1) text.ended)) (sym k) ∙ ap (λ (y : Call). text.opened (readingOf y)) (sym h)
 
 -- the reply to a line, at a stage that is known
-pub replied-as : {g g′ : Stage} {x y : text.Reading} (room : List ℕ) → g ≡ g′ → x ≡ y → text.replied (stageOf g′ room) x ≡ text.replied (stageOf g room) y
+pub replied-as : {g g′ : Stage} {x y : text.Reading} (room : List ℕ) → g ≡ g′ → x ≡ y
+    → text.replied (stageOf g′ room) x ≡ text.replied (stageOf g room) y
 replied-as {g} {g′} {x} {y} room e f =
     ap (λ (h : Stage). text.replied (stageOf h room) x) (sym e) ∙ ap (text.replied (stageOf g room)) f
 
@@ -228,17 +228,15 @@ alike g h k (b ∷ x) a =
 -- what is owed after a byte that does not end the line
 kept : (g : text.Stage) (h : List ℕ) (b : ℕ) (x : List ℕ) {r : Bool} → r ≡ (eqb b 10 && text.endsInCR h) → r ≡ false
     → text.answers g (text.linesFrom h (b ∷ x)) ≡ text.answers g (text.linesFrom (h ++ (b ∷ [])) x)
-kept g h b x e f =
-    ap (λ (p : Bool). text.answers g (cond p (take (length h - 1) h ∷ text.linesFrom [] x) (text.linesFrom (h ++ (b ∷ [])) x))) (sym e ∙ f)
+kept g h b x e f = ap (text.answers g) (skips _ _ (sym e ∙ f))
 
 ended-line : (g : text.Stage) (h : List ℕ) (b : ℕ) (x : List ℕ) {r : Bool} → r ≡ (eqb b 10 && text.endsInCR h) → r ≡ true
     → text.answers g (text.linesFrom h (b ∷ x)) ≡ text.answers g (take (length h - 1) h ∷ text.linesFrom [] x)
-ended-line g h b x e t =
-    ap (λ (p : Bool). text.answers g (cond p (take (length h - 1) h ∷ text.linesFrom [] x) (text.linesFrom (h ++ (b ∷ [])) x))) (sym e ∙ t)
+ended-line g h b x e t = ap (text.answers g) (picks _ _ (sym e ∙ t))
 
 -- a byte that is held
-pub took-byte : (s : Session) (line room out : List ℕ) (b : ℕ) {r : Bool} → Ready s line room → r ≡ (eqb b 10 && text.endsInCR (take (s .held) line)) → r ≡ false
-    → s .held < 66
+pub took-byte : (s : Session) (line room out : List ℕ) (b : ℕ) {r : Bool} → Ready s line room → r ≡ (eqb b 10 && text.endsInCR (take (s .held) line))
+    → r ≡ false → s .held < 66
     → Took s line room out (b ∷ []) (record { held = s .held + 1; stage = s .stage; written = s .written }) (set line (s .held) b) room out
 took-byte s line room out b ready e f lt =
     let n = s .held in
@@ -256,8 +254,8 @@ took-byte s line room out b ready e f lt =
     }
 
 -- a byte of a line that is too long already: it takes the place of the last
-pub took-last : (s : Session) (line room out : List ℕ) (b : ℕ) {r : Bool} → Ready s line room → r ≡ (eqb b 10 && text.endsInCR (take (s .held) line)) → r ≡ false
-    → 66 ≤ s .held → Took s line room out (b ∷ []) s (set line 65 b) room out
+pub took-last : (s : Session) (line room out : List ℕ) (b : ℕ) {r : Bool} → Ready s line room → r ≡ (eqb b 10 && text.endsInCR (take (s .held) line))
+    → r ≡ false → 66 ≤ s .held → Took s line room out (b ∷ []) s (set line 65 b) room out
 took-last s line room out b ready e f ge =
     let n = s .held in
     let full : n ≡ 66 = omega (arith, ge, ready .0) in
