@@ -1,8 +1,9 @@
 // The text program on file descriptors: it reads, has the session answer, and writes.
 ghost use mathlib.Core.Path.{_≡_};
+ghost use mathlib.Core.Bool.{true, false};
 ghost use Prim.Native.Nat.{_≤_};
 ghost use lib.ListN.{length};
-ghost use Rattle.text.specs.Session.{Ready};
+ghost use Rattle.text.specs.Session.{Ready, isEnded};
 use text::Session;
 
 // A session, and whether the program goes on with it.
@@ -19,7 +20,7 @@ fn last(s: Session, line: &[u8], room: &mut [u8], out: &mut [u8], to: i32)
     io::write_all(to, &out[..n]);
 }
 
-// Reads once and answers what came. A read that fails and a reader that has gone away end the program.
+// Reads once and answers what came. A read that fails, a reader that has gone away and a session at its end do not go on.
 fn take_turn(
     s: Session,
     line: &mut [u8],
@@ -29,7 +30,7 @@ fn take_turn(
     to: i32,
 ) -> Turn
     requires { ⌜ Ready s (now line) (now room) × (131072 ≤ length (now out)) ⌝ }
-    ensures { λ r. ⌜ Ready (r .session) (now (line .exit)) (now (room .exit)) × (length (now (out .exit)) ≡ length (now (out .entry))) ⌝ }
+    ensures { λ r. ⌜ Ready (r .session) (now (line .exit)) (now (room .exit)) × (length (now (out .exit)) ≡ length (now (out .entry))) × (r .on ≡ true → isEnded (r .session .stage) ≡ false) ⌝ }
 {
     let mut chunk = [0u8; 1024];
     let got = libc::read(from, &mut chunk);

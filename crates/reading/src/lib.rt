@@ -29,6 +29,7 @@ fn digit(b: u8) -> bool
     (48 <= b) & (b <= 57)
 }
 
+// A field after the word: a number has 1 to 10 digits and at most 32 bits.
 fn read_field(s: &[u8]) -> Field
     ensures { λ r. ⌜ fieldAs r ≡ fieldOf (now (s .entry)) ⌝ }
 {
@@ -102,6 +103,7 @@ fn with_one(w: &[u8], a: u32) -> Call
     Call::Unreadable
 }
 
+// The same with two numbers, and with three.
 fn with_two(w: &[u8], a: u32, b: u32) -> Call
     ensures { λ r. ⌜ readingOf r ≡ asked (wordOf (now (w .entry))) (number a) (number b) empty ⌝ }
 {
@@ -123,7 +125,7 @@ fn with_three(w: &[u8], a: u32, b: u32, c: u32) -> Call
     Call::Unreadable
 }
 
-// The call of the word w, the numbers a and b, and one more field.
+// The call of the word w, the numbers a and b, and the last field; then those with two and with three fields more.
 fn after_two(w: &[u8], a: u32, b: u32, z: Field) -> Call
     ensures { λ r. ⌜ readingOf r ≡ asked (wordOf (now (w .entry))) (number a) (number b) (fieldAs z) ⌝ }
 {
@@ -158,6 +160,7 @@ fn after_word(w: &[u8], x: Field, y: Field, z: Field) -> Call
     }
 }
 
+// What a line says, its CR LF left out.
 pub fn read_line(s: &[u8]) -> Call
     ensures { λ r. ⌜ readingOf r ≡ readLine (now (s .entry)) ⌝ }
 {

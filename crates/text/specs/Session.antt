@@ -50,7 +50,7 @@ abbrev pub Ready : Session → List ℕ → List ℕ → Type 0
 Ready s line room = (s .held ≤ 66) × (length line ≡ 66) × Fits (s .stage) room
 
 -- the session s took the bytes `fed` and became r: whatever the rest of the input is, what was written and what is owed stay the same
-pub record Took (s : Session) (line : List ℕ) (room : List ℕ) (out : List ℕ) (fed : List ℕ) (r : Session) (line′ : List ℕ) (room′ : List ℕ) (out′ : List ℕ) : Type 0 where
+pub record Took (s : Session) (line room out fed : List ℕ) (r : Session) (line′ room′ out′ : List ℕ) : Type 0 where
   pub total : (x : List ℕ) → take (s .written) out ++ owedBy s line room (fed ++ x) ≡ take (r .written) out′ ++ owedBy r line′ room′ x
   pub ready : Ready r line′ room′
   pub most : r .written ≤ s .written + 128 * length fed

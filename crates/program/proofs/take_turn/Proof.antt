@@ -1,6 +1,7 @@
-use mathlib.Core.Path.{_∙_, sym}
+use mathlib.Core.Path.{refl, _∙_, sym}
 use lib.Seq.{length-take-le}
 use borrow.Author.Needs.{needs}
+use Rattle.program.proofs.Laws.{stopped, goes-on}
 use Rattle.program.proofs.take_turn.Statement.{statement}
 use Rattle.program.proofs.take_turn.Tie as tie
 
@@ -31,11 +32,15 @@ same-length-3 c = search needs
 returns : tie.Need-returns
 returns c =
     let c3 = c .before .before .before in
-    let c17 = c3 .before .before .before .before .before .before .before .before .before .before .before .before .before .before in
-    ((c17 .pre .0 .0, c17 .pre .0 .1, (c3 .room .given ∙ c17 .pre .0 .2 .0, c17 .pre .0 .2 .1)), c .before .out .given)
+    let c3 = c3 in
+    let c17 = c3 .before .before .before .before .before .before .before .before .before .before .before .before .before .before
+    in
+    ((c17 .pre .0 .0, c17 .pre .0 .1, (c3 .room .given ∙ c17 .pre .0 .2 .0, c17 .pre .0 .2 .1)), c .before .out .given, stopped)
 
 returns-2 : tie.Need-returns-2
-returns-2 c = search needs
+returns-2 c =
+    let c10 = c .before .before .before .before .before .before .before .before .before .before in
+    (c10 .pre .0, refl, stopped)
 
 array-share-prefix-chunk : tie.Need-array-share-prefix-chunk
 array-share-prefix-chunk c = search needs
@@ -52,6 +57,7 @@ slice-reshare-prefix-write-all c = search needs
 slice-aggregate-write-all : tie.Need-slice-aggregate-write-all
 slice-aggregate-write-all c =
     let c7 = c .before .before .before .before .before .before .before in
+    let c7 = c7 in
     sym (length-take-le (c7 .feed .result .written) (c7 .feed .last .1 .1 .1 .1 .0) (c7 .feed .ensures .1))
 
 write-all-requires : tie.Need-write-all-requires
@@ -70,7 +76,10 @@ same-length-6 : tie.Need-same-length-6
 same-length-6 c = search needs
 
 returns-3 : tie.Need-returns-3
-returns-3 c = search needs
+returns-3 c =
+    let c4 = c .before .before .before .before in
+    let c9 = c4 .before .before .before .before .before in
+    (c9 .feed .ensures .0, c4 .out2 .given, goes-on (c .before .write-all .result) (c .ended .result) (c .ended .ensures .0))
 
 pub take-turn-spec : {M : Type 1} → statement M
 take-turn-spec =
