@@ -16,7 +16,7 @@ use Rattle.reading.specs.Meanings.{fieldAs, Ends}
 use Rattle.reading.proofs.Tests.{and-false, picks, skips}
 
 -- the bytes from i on begin with byte i
-pub drop-next : (s : List ℕ) (i : ℕ) → i < length s → drop i s ≡ getD s i 0 ∷ drop (i + 1) s
+drop-next : (s : List ℕ) (i : ℕ) → i < length s → drop i s ≡ getD s i 0 ∷ drop (i + 1) s
 drop-next s i lt = rw (add-one i) (drop-cons s i 0 lt)
 
 -- ---- words
@@ -61,11 +61,15 @@ same-is (a ∷ s) (b ∷ t) e =
 
 -- ---- numbers
 
--- s up to i are digits of value v, as far as it goes
+pub digit-bounds : (b : ℕ) {r : Bool} → r ≡ digit b → r ≡ true → (48 ≤ b) × (b ≤ 57)
+digit-bounds b e d =
+    let both = and-eq-true-iff (leb 48 b) (leb b 57) .0 (sym e ∙ d) in
+    (leb-true 48 b (both .0), leb-true b 57 (both .1))
+
+-- the first i bytes of s are digits of the value v: what is left decides the rest
 abbrev pub Valued : List ℕ → ℕ → ℕ → Type 0
 Valued s v i = (i ≤ length s) × (digits s ≡ digits (drop i s)) × (valueFrom 0 s ≡ valueFrom v (drop i s)) × (v < 10 ^ i)
 
--- ten digits at most
 pub valued-small : (s : List ℕ) (v i : ℕ) → Valued s v i → length s ≤ 10 → v < 10000000000
 valued-small s v i h le =
     let up : 10 ^ i ≤ 10000000000 = pow-le-pow-right {n = 10} (omega arith) {i = i} {j = 10} (omega (arith, h .0, le)) in
@@ -75,8 +79,7 @@ pub valued-on : (s : List ℕ) (v i : ℕ) → Valued s v i → i < length s →
     → Valued s (10 * v + (getD s i 0 - 48)) (i + 1)
 valued-on s v i h lt d =
     let b = getD s i 0 in
-    let both = and-eq-true-iff (leb 48 b) (leb b 57) .0 d in
-    let most : b ≤ 57 = leb-true b 57 (both .1) in
+    let most : b ≤ 57 = digit-bounds b refl d .1 in
     let next = drop-next s i lt in
     let up : 10 ^ (i + 1) ≡ 10 ^ i * 10 = ap (λ (m : ℕ). 10 ^ m) (add-one i) ∙ pow-suc 10 i in
     let below : 10 * v + (b - 48) < 10 ^ i * 10 = omega (arith, h .3, most) in (
@@ -86,12 +89,7 @@ valued-on s v i h lt d =
       rw up below,
     )
 
-pub digit-bounds : (b : ℕ) {r : Bool} → r ≡ digit b → r ≡ true → (48 ≤ b) × (b ≤ 57)
-digit-bounds b e d =
-    let both = and-eq-true-iff (leb 48 b) (leb b 57) .0 (sym e ∙ d) in
-    (leb-true 48 b (both .0), leb-true b 57 (both .1))
-
--- what the tests of a number give where they fail
+-- a field that fails a test of a number
 no-number : (s : List ℕ) → 0 < length s → (leb (length s) 10 && digits s && leb (valueFrom 0 s) 4294967295) ≡ false → other ≡ fieldOf s
 no-number [] pos e = absurd (not-suc-le-zero pos)
 no-number (b ∷ s) pos e = sym (skips _ _ e)
