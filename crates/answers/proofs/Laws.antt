@@ -66,14 +66,15 @@ shows-called F {o} r k m t a area res e zeros f told len words small =
       within = omega (arith, fit, size, length-append a (drop m area));
     }
 
--- no call: 99, and no words
-pub shows-none : {o : Outcome} (t area : List ℕ) (res : Ran) → outcome 99 t [] ≡ o → Told 99 0 res → Shows o res t area
-shows-none t area res e told =
+-- an outcome with an empty area has no words
+pub shows-none : {o : Outcome} (r : ℕ) (t area : List ℕ) (res : Ran) → outcome r t [] ≡ o → Told r 0 res → Shows o res t area
+shows-none r t area res e told =
+    let fit : 4 * res .count ≤ 0 = subst (λ (c : ℕ). 4 * c ≤ 0) (sym (told .1)) (count-within (eqb r 0) 0) in
     record {
       number = told .0 ∙ ap (λ (x : Outcome). x .returned) e;
       left = ap (λ (x : Outcome). x .table) e;
-      words = ap (λ (c : ℕ). shown c area) (told .1) ∙ ap answerWords e;
-      within = subst (λ (c : ℕ). 4 * c ≤ length area) (sym (told .1)) (omega arith);
+      words = ap (λ (c : ℕ). shown c area) (told .1) ∙ shows-words r 0 t [] area refl ∙ ap answerWords e;
+      within = omega (arith, fit);
     }
 
 -- ---- fields

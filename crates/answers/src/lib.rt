@@ -18,7 +18,7 @@ pub struct Ran {
 }
 
 // A refused call answers no words.
-fn told(returned: u32, count: usize) -> Ran
+pub fn told(returned: u32, count: usize) -> Ran
     ensures { λ r. ⌜ (r .returned ≡ returned) × (r .count ≡ cond (eqb returned 0) count 0) ⌝ }
 {
     if returned == 0 {

@@ -1,14 +1,14 @@
 -- The digits of a number, one power of ten after the other.
 use mathlib.Core.Path.{_≡_, refl, _∙_, sym, ap, subst}
-use mathlib.Core.Bool.{Bool, true, false, _&&_}
+use mathlib.Core.Bool.{Bool, true, false, _&&_, and-eq-true-iff}
 use mathlib.Core.List.{List, [], _∷_, _++_, append-nil}
 use Prim.Native.Nat.{ℕ, zero, suc, _+_, _-_, _*_, _/_, _%_, _^_, _≤_, _<_, suc-le-suc}
 use native.Mathlib.Omega.{arith}
 use native.Mathlib.Nat.{pow-suc, pow-succ', div-div-eq-div-mul, div-lt-iff-lt-mul, le-div-iff-mul-le, div-one, pow-le-pow-right, not-suc-le-zero, le-of-suc-le-suc, zero-add, add-zero, suc-add, add-suc}
-use lib.Dec.{T, leb, eqb, eqb→eq}
+use lib.Dec.{leb, eqb}
 use lib.ListN.{length, getD, take, set, length-set}
 use lib.Seq.{append-snoc}
-use borrow.Author.Tests.{lt-ltb, le-ltb, leb-true, leb-false}
+use borrow.Author.Tests.{lt-ltb, le-ltb, leb-true, leb-false, eqb-true}
 use Rattle.rules.specs.Text.{decimal, lastDigits}
 use Rattle.decimal.specs.Appended.{Appended, Digits}
 use Rattle.decimal.proofs.Texts.{appended-byte}
@@ -23,23 +23,17 @@ abbrev rising : ℕ → List ℕ → Bool
 rising i [] = true
 rising i (x ∷ xs) = eqb x (10 ^ i) && rising (suc i) xs
 
-left : (a b : Bool) → T (a && b) → T a
-left true b t = tt
-left false b t = t
-
-right : (a b : Bool) → T (a && b) → T b
-right true b t = t
-right false b t = absurd t
-
-at-place : (xs : List ℕ) (i : ℕ) → T (rising i xs) → (k : ℕ) → k < length xs → getD xs k 0 ≡ 10 ^ (i + k)
+at-place : (xs : List ℕ) (i : ℕ) → rising i xs ≡ true → (k : ℕ) → k < length xs → getD xs k 0 ≡ 10 ^ (i + k)
 at-place [] i t k h = absurd (not-suc-le-zero h)
-at-place (x ∷ xs) i t zero h = eqb→eq x (10 ^ i) (left (eqb x (10 ^ i)) (rising (suc i) xs) t) ∙ ap (λ (m : ℕ). 10 ^ m) (sym (add-zero i))
+at-place (x ∷ xs) i t zero h =
+    eqb-true x (10 ^ i) (and-eq-true-iff (eqb x (10 ^ i)) (rising (suc i) xs) .0 t .0) ∙ ap (λ (m : ℕ). 10 ^ m) (sym (add-zero i))
 at-place (x ∷ xs) i t (suc k) h =
-    at-place xs (suc i) (right (eqb x (10 ^ i)) (rising (suc i) xs) t) k (le-of-suc-le-suc h) ∙ ap (λ (m : ℕ). 10 ^ m) (suc-add i k ∙ sym (add-suc i k))
+    at-place xs (suc i) (and-eq-true-iff (eqb x (10 ^ i)) (rising (suc i) xs) .0 t .1) k (le-of-suc-le-suc h)
+    ∙ ap (λ (m : ℕ). 10 ^ m) (suc-add i k ∙ sym (add-suc i k))
 
 -- the table's rule, from one test over the whole of it
 pub power-at : (k : ℕ) → k < 10 → getD powers k 0 ≡ 10 ^ k
-power-at k h = at-place powers 0 tt k h ∙ ap (λ (m : ℕ). 10 ^ m) (zero-add k)
+power-at k h = at-place powers 0 refl k h ∙ ap (λ (m : ℕ). 10 ^ m) (zero-add k)
 
 power-pos : (i : ℕ) → 0 < 10 ^ i
 power-pos i = pow-le-pow-right {n = 10} (omega arith) {i = 0} {j = i} (omega arith)
@@ -70,7 +64,8 @@ spelled-all (suc f) (suc j) v jf below above =
     let up : 10 ^ j * 10 ≤ v = subst (λ (x : ℕ). x ≤ v) (pow-suc 10 j) (above (omega arith)) in
     let one : 1 ≤ 10 ^ j = power-pos j in
     let ten : 10 ≤ v = omega (arith, up, one) in
-    let rest = spelled-all f j (v / 10) (le-of-suc-le-suc jf) (div-lt-iff-lt-mul (omega arith) .1 (subst (λ (x : ℕ). v < x) (pow-suc 10 (suc j)) below)) (λ _. le-div-iff-mul-le (omega arith) .1 up) in
+    let down : v / 10 < 10 ^ suc j = div-lt-iff-lt-mul {k = 10} (omega arith) .1 (subst (λ (x : ℕ). v < x) (pow-suc 10 (suc j)) below) in
+    let rest = spelled-all f j (v / 10) (le-of-suc-le-suc jf) down (λ _. le-div-iff-mul-le {k = 10} (omega arith) .1 up) in
     simp (le-ltb v 10 ten) (ap (λ (l : List ℕ). l ++ ((48 + v % 10) ∷ [])) rest ∙ sym (spelled-last (suc j) v))
 
 pub decimal-spelled : (v k : ℕ) → Digits v k → decimal v ≡ spelled k v

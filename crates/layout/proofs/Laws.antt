@@ -2,7 +2,7 @@
 use mathlib.Core.Path.{_≡_, refl, sym, _∙_}
 use mathlib.Core.Logic.{_≢_}
 use mathlib.Core.List.{List, [], _∷_}
-use mathlib.Core.Bool.{Bool, true, false, not, _&&_, _||_}
+use mathlib.Core.Bool.{Bool, true, false, not, _&&_, _||_, and-true, and-false}
 use Prim.Native.Nat.{ℕ, zero, suc, _+_, _-_, _*_, _≤_, _<_}
 use native.Mathlib.Numerals.{add-one}
 use lib.Dec.{eqb, leb, ltb}
@@ -25,15 +25,7 @@ or-none false = refl
 -- the first of five tests, moved to the end
 moved : (c d f g h : Bool) → (c && d && f && g && h) ≡ (d && f && g && h && c)
 moved true d f g h = sym (and-true (d && f && g && h))
-  where
-    and-true : (x : Bool) → (x && true) ≡ x
-    and-true true = refl
-    and-true false = refl
 moved false d f g h = sym (and-false (d && f && g && h))
-  where
-    and-false : (x : Bool) → (x && false) ≡ false
-    and-false true = refl
-    and-false false = refl
 
 pub record-fold : (n e most p k kind a b : ℕ) → most ≡ n * e
     → (((eqb kind 1 || eqb kind 2) && leb a most && eqb b 0)

@@ -1,6 +1,6 @@
 -- Lines, fields and words, one byte after the other.
 use mathlib.Core.Path.{_≡_, refl, _∙_, sym, ap, subst}
-use mathlib.Core.Bool.{Bool, true, false, cond, _&&_, false≢true, and-eq-true-iff}
+use mathlib.Core.Bool.{Bool, true, false, cond, _&&_, false≢true, and-eq-true-iff, and-false}
 use mathlib.Core.List.{List, [], _∷_, _++_}
 use Prim.Native.Nat.{ℕ, suc, _+_, _-_, _*_, _^_, _≤_, _<_}
 use native.Mathlib.Omega.{arith}
@@ -13,7 +13,7 @@ use borrow.Author.Tests.{lt-ltb, le-ltb, le-leb, lt-leb, eq-eqb, ne-eqb, eqb-tru
 use Rattle.rules.specs.Text.{Field, empty, number, other, Reading, unreadable, Word, freshWord, checkpointWord, sendWord, receiptWord, lineWord, failedWord, noWord, freshBytes, checkpointBytes, sendBytes, receiptBytes, lineBytes, failedBytes, Ask, oneNumber, twoNumbers, threeNumbers, asked, wordOf, same, digit, digits, valueFrom, fieldOf, fieldsFrom, readLine}
 use Rattle.reading.specs.declared.Field as reading
 use Rattle.reading.specs.Meanings.{fieldAs, Ends}
-use Rattle.reading.proofs.Tests.{and-false, picks, skips}
+use Rattle.reading.proofs.Tests.{picks, skips}
 
 -- the bytes from i on begin with byte i
 drop-next : (s : List ℕ) (i : ℕ) → i < length s → drop i s ≡ getD s i 0 ∷ drop (i + 1) s

@@ -1,12 +1,7 @@
--- What follows from a test that is known.
-use mathlib.Core.Path.{_≡_, refl, ap}
-use mathlib.Core.Bool.{Bool, true, false, cond, _&&_}
+-- The side that a test picks.
+use mathlib.Core.Path.{_≡_, ap}
+use mathlib.Core.Bool.{Bool, true, false, cond}
 
-pub and-false : (a : Bool) → (a && false) ≡ false
-and-false true = refl
-and-false false = refl
-
--- the side that it picks
 pub picks : {A : Type 0} {b : Bool} (x y : A) → b ≡ true → cond b x y ≡ x
 picks x y e = ap (λ (c : Bool). cond c x y) e
 

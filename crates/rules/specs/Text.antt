@@ -159,7 +159,7 @@ readLine s =
 
 -- ---- answers
 
--- the last k digits of v at most, none of them a leading 0
+-- the digits of v, the last k at most; only that of 0 itself is a leading 0
 abbrev pub lastDigits : ℕ → ℕ → List ℕ
 lastDigits zero v = []
 lastDigits (suc k) v = cond (ltb v 10) [] (lastDigits k (v / 10)) ++ ((48 + v % 10) ∷ [])

@@ -1,7 +1,7 @@
 -- A line answered, and a line that is held.
 use mathlib.Core.Path.{_≡_, refl, _∙_, sym, ap, subst}
 use mathlib.Core.Logic.{inl, inr}
-use mathlib.Core.Bool.{Bool, true, false, not, cond, _&&_, and-eq-true-iff, false≢true}
+use mathlib.Core.Bool.{Bool, true, false, not, cond, _&&_, and-eq-true-iff, false≢true, and-false}
 use mathlib.Core.List.{List, [], _∷_, _++_, append-assoc, append-nil}
 use Prim.Native.Nat.{ℕ, zero, suc, _+_, _-_, _*_, _≤_, _<_}
 use native.Mathlib.Omega.{arith}
@@ -12,16 +12,17 @@ use lib.ListN.{length, getD, set, take, drop, replicate, length-append, length-r
 use lib.Seq.{take-at, take-take, take-suc, take-suc-set, take-all, length-take-le, getD-take, getD-at}
 use types.Run.{OneOf}
 use denote.Enum.Declared.{tagOf}
-use borrow.Author.Tests.{leb-true, eq-eqb, lt-leb}
-use Rattle.xdr.specs.Words.{words}
-use Rattle.rules.specs.Table.{inRange, size, layout, fresh}
-use Rattle.rules.specs.Calls.{Outcome, outcome, answerWords, freshOn}
+use borrow.Author.Tests.{leb-true, lt-leb}
+use Rattle.xdr.specs.Words.{putWords}
+use Rattle.rules.specs.Table.{inRange, size, fresh}
+use Rattle.rules.specs.Calls.{Outcome, outcome, freshOn}
 use Rattle.rules.specs.Text as text
+use Rattle.layout.proofs.Laws.{fresh-done}
 use Rattle.reading.specs.declared.Call.{Call}
 use Rattle.reading.specs.declared.Call.the-variants.{Fresh, Checkpoint, Send, Receipt, Line, Failed, Unreadable}
 use Rattle.reading.proofs.Call.{the-type}
 use Rattle.reading.specs.Meanings.{readingOf}
-use Rattle.reading.proofs.Tests.{and-false, picks, skips}
+use Rattle.reading.proofs.Tests.{picks, skips}
 use Rattle.decimal.specs.Appended.{Appended}
 use Rattle.decimal.proofs.Texts.{appended-none, appended-as}
 use Rattle.answers.specs.declared.Ran.{Ran}
@@ -50,14 +51,14 @@ room-enough n e h eq =
     omega (arith, eq, most)
 
 -- a fresh call on a table of the exact length, whatever its bytes
-fresh-is : (t : List ℕ) (n e : ℕ) → inRange n e ≡ true → length t ≡ size n e → freshOn t n e ≡ outcome 0 (layout n e (fresh n)) []
-unfolding freshOn
-fresh-is t n e r l = simp (r, eq-eqb (length t) (size n e) l) refl
-
 pub fresh-begun : (t : List ℕ) (n e : ℕ) → text.inProgramRange n e ≡ true → length t ≡ size n e → freshOn t n e ≡ text.begun n e
 fresh-begun t n e h l =
     let r = in-range n e h .0 in
-    fresh-is t n e r l ∙ sym (fresh-is (replicate (size n e) 0) n e r (length-replicate {A = ℕ} (size n e) 0))
+    let zeros : List ℕ = replicate (size n e) 0 in
+    let z : length zeros ≡ size n e = length-replicate {A = ℕ} (size n e) 0 in
+    sym (fresh-done t n e r l refl refl)
+    ∙ ap (λ (m : ℕ). outcome 0 (putWords (replicate m 0) 0 (n ∷ e ∷ [])) []) (l ∙ sym z)
+    ∙ fresh-done zeros n e r z refl refl
 
 -- a table that was lent from the room is back in it
 pub room-back : (n m : ℕ) (t room : List ℕ) {u : List ℕ} → length t ≡ length (take m room) → m ≤ length room → t ≡ u
@@ -82,24 +83,6 @@ replies-answer n m o t room put lent back len le eight e =
       fits = (back ∙ len, (eight, le));
       most = put .1;
     }
-
--- fresh has no words
-fresh-words : (r : ℕ) (t : List ℕ) → answerWords (outcome r t []) ≡ []
-fresh-words r t = either (eqb r 0)
-  where
-    either : (b : Bool) → cond b (words []) [] ≡ []
-    either true = refl
-    either false = refl
-
-pub fresh-line : (n r : ℕ) (t : List ℕ) (o : Outcome) {before out : List ℕ} {at x : ℕ} → outcome r t [] ≡ o
-    → Appended before at out x (text.decimal r ++ text.furtherFields (n + 2) [] ++ text.lineEnd) × (x ≤ at + 128)
-    → Appended before at out x (text.answerLine n o) × (x ≤ at + 128)
-fresh-line n r t o e put = (
-  appended-as
-      (ap (λ (ws : List ℕ). text.decimal r ++ text.furtherFields (n + 2) ws ++ text.lineEnd) (sym (fresh-words r t)) ∙ ap (text.answerLine n) e)
-      (put .0),
-  put .1,
-)
 
 pub call-line : (n : ℕ) (o : Outcome) (res : Ran) (t area : List ℕ) {before out : List ℕ} {at x : ℕ} → Shows o res t area
     → Appended before at out x (text.decimal (res .returned) ++ text.furtherFields (n + 2) (shown (res .count) area) ++ text.lineEnd) × (x ≤ at + 128)

@@ -63,11 +63,7 @@ fn begin(n: u32, e: u32, room: &mut [u8], out: &mut [u8], at: usize) -> Reply
     let size = layout::table_size(m, e as usize);
     let r = engine::ckpt_fresh(&mut room[..size], n, e);
     let area = [0u8; 4];
-    let told = answers::Ran {
-        returned: r,
-        count: 0,
-    };
-    let written = answers::put_answer(out, at, m, told, &area);
+    let written = answers::put_answer(out, at, m, answers::told(r, 0), &area);
     Reply {
         stage: Stage::Running { n: m, size: size },
         written: written,

@@ -131,7 +131,7 @@ returns : tie.Need-returns
 returns c =
     let c5 = c .before .before .before .before .before in
     let a = c5 .args in
-    shows-none (a .table .now) (a .area .now) _ (ran-as (a .n) (a .table .now) (c .before .enum-told .given .1))
+    shows-none 99 (a .table .now) (a .area .now) _ (ran-as (a .n) (a .table .now) (c .before .enum-told .given .1))
     (c .told .ensures)
 
 same-length : tie.Need-same-length
@@ -219,7 +219,7 @@ returns-7 : tie.Need-returns-7
 returns-7 c =
     let c5 = c .before .before .before .before .before in
     let a = c5 .args in
-    shows-none (a .table .now) (a .area .now) _ (ran-as (a .n) (a .table .now) (c .before .enum-told2 .given .1))
+    shows-none 99 (a .table .now) (a .area .now) _ (ran-as (a .n) (a .table .now) (c .before .enum-told2 .given .1))
     (c .told7 .ensures)
 
 pub run-spec : {M : Type 1} → statement M

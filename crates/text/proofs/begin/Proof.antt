@@ -1,10 +1,11 @@
-use mathlib.Core.Path.{_∙_, sym, ap}
+use mathlib.Core.List.{[], _∷_}
+use mathlib.Core.Path.{refl, _∙_, sym}
 use native.Mathlib.Omega.{arith}
 use lib.Seq.{length-take-le}
 use borrow.Author.Needs.{needs}
-use Rattle.rules.specs.Calls.{Outcome}
+use Rattle.answers.proofs.Laws.{shows-none}
 use Rattle.rules.specs.Text.{begun}
-use Rattle.text.proofs.Laws.{in-range, room-enough, fresh-begun, fresh-line, replies-answer}
+use Rattle.text.proofs.Laws.{in-range, room-enough, fresh-begun, call-line, replies-answer}
 use Rattle.text.proofs.begin.Statement.{statement}
 use Rattle.text.proofs.begin.Tie as tie
 
@@ -30,14 +31,21 @@ slice-aggregate-ckpt-fresh c =
 ckpt-fresh-requires : tie.Need-ckpt-fresh-requires
 ckpt-fresh-requires c κs = search needs
 
+told-requires : tie.Need-told-requires
+told-requires c κs = search needs
+
 slice-aggregate-put-answer : tie.Need-slice-aggregate-put-answer
 slice-aggregate-put-answer c = search needs
 
 put-answer-requires : tie.Need-put-answer-requires
 put-answer-requires c κs =
-    let c9 = c .before .before .before .before .before .before .before .before .before in
-    let a = c9 .args in
-    (in-range (a .n) (a .e) (c9 .pre .0) .1, c9 .pre .2, omega arith)
+    let c5 = c .before .before .before .before .before in
+    let c10 = c5 .before .before .before .before .before in
+    let a = c10 .args in (
+      in-range (a .n) (a .e) (c10 .pre .0) .1,
+      c10 .pre .2,
+      (shows-none (c5 .ckpt-fresh .result) [] (0 ∷ 0 ∷ 0 ∷ 0 ∷ []) (c .before .told .result) refl (c .before .told .ensures)) .within,
+    )
 
 same-length : tie.Need-same-length
 same-length c = search needs
@@ -47,18 +55,19 @@ same-length-2 c = search needs
 
 returns : tie.Need-returns
 returns c =
-    let c6 = c .before .before .before .before .before .before in
-    let c7 = c6 .before in
-    let c9 = c7 .before .before in
-    let c12 = c9 .before .before .before in
-    let a = c12 .args in
-    let enough = room-enough (a .n) (a .e) (c12 .pre .0) (c9 .table-size .ensures) in
-    let lent = length-take-le (c9 .table-size .result) (a .room .now) (omega (arith, enough, c12 .pre .1)) in
-    let m = c7 .ckpt-fresh .ensures ∙ fresh-begun _ (a .n) (a .e) (c12 .pre .0) (lent ∙ c9 .table-size .ensures) in
-    replies-answer (a .n) (c9 .table-size .result) (begun (a .n) (a .e)) _ (a .room .now)
-    (fresh-line (a .n) _ _ (begun (a .n) (a .e)) m (c .before .before .put-answer .ensures)) (c6 .room .given .0)
-    (c6 .room .given .1) (c12 .pre .1) enough
-    (in-range (a .n) (a .e) (c12 .pre .0) .1) (ap (λ (o : Outcome). o .table) m)
+    let c4 = c .before .before .before .before in
+    let c7 = c4 .before .before .before in
+    let c8 = c7 .before in
+    let c10 = c8 .before .before in
+    let c13 = c10 .before .before .before in
+    let a = c13 .args in
+    let enough = room-enough (a .n) (a .e) (c13 .pre .0) (c10 .table-size .ensures) in
+    let lent = length-take-le (c10 .table-size .result) (a .room .now) (omega (arith, enough, c13 .pre .1)) in
+    let m = c8 .ckpt-fresh .ensures ∙ fresh-begun _ (a .n) (a .e) (c13 .pre .0) (lent ∙ c10 .table-size .ensures) in
+    let s = shows-none _ _ (0 ∷ 0 ∷ 0 ∷ 0 ∷ []) (c4 .told .result) m (c4 .told .ensures) in
+    replies-answer (a .n) (c10 .table-size .result) (begun (a .n) (a .e)) _ (a .room .now)
+    (call-line (a .n) (begun (a .n) (a .e)) (c4 .told .result) _ _ s (c .before .before .put-answer .ensures))
+    (c7 .room .given .0) (c7 .room .given .1) (c13 .pre .1) enough (in-range (a .n) (a .e) (c13 .pre .0) .1) (s .left)
 
 pub begin-spec : {M : Type 1} → statement M
 begin-spec =
@@ -68,6 +77,7 @@ begin-spec =
     slice-relend-prefix-ckpt-fresh
     slice-aggregate-ckpt-fresh
     ckpt-fresh-requires
+    told-requires
     slice-aggregate-put-answer
     put-answer-requires
     same-length
