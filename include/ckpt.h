@@ -1,15 +1,21 @@
-/* The checkpoint table of the block controller and its restart lines (document 01), over lent bytes.
+/* The checkpoint table of a block controller and its restart lines (document 01), over lent bytes.
 
-   Every call returns 0 when it is accepted. Otherwise it returns the number of the first check that stops it and leaves the
-   table and the answer area as they were. Numbers in the table and in answer areas are XDR unsigned integers: four bytes, most
-   significant first. Areas never overlap, and nobody else writes them during a call.
+   The caller lends a table and an area for the answer. A call that is accepted returns CKPT_OK. Any other number is that of the first
+   check that stopped it, and table and area are then as they were, whatever bytes, lengths and numbers came in. Each call below
+   lists the numbers that it can return, in the order in which it checks.
 
-    1  n or e outside its range          7  no send k of q to p
-    2  length of the table               8  p already has that receipt
-    3  the table is not well laid        9  too few records left
-    4  length of the answer area        10  the number is n * e already
-    5  acting process: p >= n           11  the mask has a bit at n or above
-    6  other process: q >= n or q = p */
+   Words in tables and areas are XDR unsigned integers: four bytes, most significant first. ckpt_word reads one.
+
+   What the caller sees to:
+   - A pointer and its length stand for bytes that may be read and, where the pointer is not const, written. Any alignment will do.
+   - Table and area do not overlap, and nobody else writes them during a call, nor reads what the call may write.
+   - A null pointer with length 0 is an area of no bytes, which no call looks at. With any other length a null pointer is an error that
+     no call can see.
+   - ckpt_failed needs 19 KiB of stack, every other call less than 512 bytes.
+
+   Calls keep nothing of their own. They may run at the same time on different tables, and ckpt_line and ckpt_failed on one table too,
+   each with its own area. A call that is cut short, as by a power cut, may leave a part of what it writes: who keeps tables in storage
+   keeps the last whole one until the next is whole. */
 #ifndef CKPT_H
 #define CKPT_H
 
@@ -20,27 +26,71 @@
 extern "C" {
 #endif
 
-/* Makes a fresh table of n processes (1 to 16) with e records each (1 to 1024) in 8 + 12 * n * (e + 1) bytes. */
+/* The numbers returned. */
+#define CKPT_OK 0u                /* accepted */
+#define CKPT_BAD_DIMENSIONS 1u    /* n or e outside its range */
+#define CKPT_BAD_TABLE_LENGTH 2u  /* the table is under 8 bytes, or its length is not that for n and e */
+#define CKPT_NOT_WELL_LAID 3u     /* the table's words are not such as any table has */
+#define CKPT_BAD_AREA_LENGTH 4u   /* the area's length is not the answer's */
+#define CKPT_BAD_PROCESS 5u       /* acting process: p >= n */
+#define CKPT_BAD_OTHER_PROCESS 6u /* other process: q >= n or q = p */
+#define CKPT_NOT_SENT 7u          /* q has no send k, or sent it to another process than p */
+#define CKPT_ALREADY_RECEIVED 8u  /* p has a receipt of send k of q already */
+#define CKPT_NO_RECORDS_LEFT 9u   /* p has fewer records free than needed: 2 for a receipt that forces, else 1 */
+#define CKPT_NUMBER_AT_LIMIT 10u  /* p's number is n * e already; no table that these calls made has it */
+#define CKPT_BAD_MASK 11u         /* the mask has a bit at n or above */
+
+/* The ranges: n processes, 1 to 16, named 0 to n - 1, with e records each, 1 to 1024. */
+#define CKPT_MAX_PROCESSES 16u
+#define CKPT_MAX_RECORDS 1024u
+
+/* The lengths in bytes of a table and of each call's answer, for n and e in their ranges. */
+#define CKPT_TABLE_LENGTH(n, e) (8ul + 12ul * (n) * ((e) + 1ul))
+#define CKPT_CHECKPOINT_LENGTH 4ul
+#define CKPT_SEND_LENGTH 8ul
+#define CKPT_RECEIPT_LENGTH 8ul
+#define CKPT_LINE_LENGTH(n) (4ul * (n))
+#define CKPT_FAILED_LENGTH(n) (4ul * (n) + 8ul)
+
+/* Word i of an area, counted from 0. */
+static inline uint32_t ckpt_word(const uint8_t *area, size_t i) {
+    uint32_t word = 0;
+    for (size_t byte = 4 * i; byte < 4 * i + 4; byte++) word = word << 8 | area[byte];
+    return word;
+}
+
+/* Makes a fresh table of n processes with e records each, over whatever the bytes were.
+   Returns CKPT_BAD_DIMENSIONS, CKPT_BAD_TABLE_LENGTH, CKPT_OK. */
 uint32_t ckpt_fresh(uint8_t *table, size_t table_len, uint32_t n, uint32_t e);
 
-/* Process p saves its state. The area of 4 bytes gets the checkpoint's number. */
+/* Process p saves its state. Adds the checkpoint to the table; the area gets its number.
+   Returns CKPT_BAD_TABLE_LENGTH, CKPT_BAD_DIMENSIONS, CKPT_NOT_WELL_LAID, CKPT_BAD_AREA_LENGTH, CKPT_BAD_PROCESS,
+   CKPT_NO_RECORDS_LEFT, CKPT_NUMBER_AT_LIMIT, CKPT_OK. */
 uint32_t ckpt_checkpoint(uint8_t *table, size_t table_len, uint8_t *area, size_t area_len, uint32_t p);
 
-/* Process p sends to q. The area of 8 bytes gets the send number and the carried number. */
+/* Process p sends a message to q. Adds the send to the table; the area gets its send number, which with p names the message, and the
+   number it carries.
+   Returns CKPT_BAD_TABLE_LENGTH, CKPT_BAD_DIMENSIONS, CKPT_NOT_WELL_LAID, CKPT_BAD_AREA_LENGTH, CKPT_BAD_PROCESS,
+   CKPT_BAD_OTHER_PROCESS, CKPT_NO_RECORDS_LEFT, CKPT_OK. */
 uint32_t ckpt_send(uint8_t *table, size_t table_len, uint8_t *area, size_t area_len, uint32_t p, uint32_t q);
 
-/* Process p receives send k of q. The area of 8 bytes gets the carried number, then 1 if p must save its state before it takes the
-   message (a forced checkpoint, recorded by this call) and 0 if not. */
+/* Process p receives send k of q, in any order, each once. Adds the receipt to the table, and a forced checkpoint before it where one
+   is due. The area gets the carried number, then 1 if it forced and 0 if not: after a 1 the host saves the state of p before p takes
+   the message.
+   Returns CKPT_BAD_TABLE_LENGTH, CKPT_BAD_DIMENSIONS, CKPT_NOT_WELL_LAID, CKPT_BAD_AREA_LENGTH, CKPT_BAD_PROCESS,
+   CKPT_BAD_OTHER_PROCESS, CKPT_NOT_SENT, CKPT_ALREADY_RECEIVED, CKPT_NO_RECORDS_LEFT, CKPT_OK. */
 uint32_t ckpt_receipt(uint8_t *table, size_t table_len, uint8_t *area, size_t area_len, uint32_t p, uint32_t q, uint32_t k);
 
-/* Numbered line: the area of 4 * n bytes gets a position for each process, that of its first checkpoint with this number or more,
-   else its count of records. */
+/* Numbered line: the area gets a position for each process, how many of its records have happened there. It is that of its first
+   checkpoint with this number or more, else its count of records. Any number may be asked for; the table stays as it is.
+   Returns CKPT_BAD_TABLE_LENGTH, CKPT_BAD_DIMENSIONS, CKPT_NOT_WELL_LAID, CKPT_BAD_AREA_LENGTH, CKPT_OK. */
 uint32_t ckpt_line(const uint8_t *table, size_t table_len, uint8_t *area, size_t area_len, uint32_t number);
 
-/* Failure line: bit p of the mask, counted from the lowest as 0, is set where process p failed. A failed process may be at 0 or a
-   checkpoint, another at its count of records as well. The area of 4 * n + 8 bytes gets the latest of these positions at which no
-   message is received but unsent, one for each process, then the mask of the processes that go back, those whose position is below
-   their count, then how many they are. Needs some 19 KiB of stack; every other call needs less than 1 KiB. */
+/* Failure line: bit p of the mask, counted from the lowest as 0, is set where process p failed. A failed process may be at 0, its
+   state when the table was fresh, or at a checkpoint; another may also be at its count of records, its running state. The area gets
+   the latest of these positions at which no message is received but unsent, one for each process, then the mask of the processes
+   whose position is below their count, which go back, then how many they are. The table stays as it is.
+   Returns CKPT_BAD_TABLE_LENGTH, CKPT_BAD_DIMENSIONS, CKPT_NOT_WELL_LAID, CKPT_BAD_AREA_LENGTH, CKPT_BAD_MASK, CKPT_OK. */
 uint32_t ckpt_failed(const uint8_t *table, size_t table_len, uint8_t *area, size_t area_len, uint32_t mask);
 
 #ifdef __cplusplus

@@ -1,0 +1,159 @@
+/* The header's names against document 01, in what C99 and C++17 have in common. Every row of the document's table "Where a call is
+   stopped" is met by calls that meet no earlier one; the lengths are the document's; areas of no bytes are refused by their length. */
+#include <ckpt.h>
+#include <ckpt.h> /* once more: it may be included twice */
+
+#include <stdio.h>
+#include <string.h>
+
+#if CKPT_TABLE_LENGTH(16, 1024) != 196808 || CKPT_BAD_MASK != 11
+#error "the header's macros can't be used by the preprocessor"
+#endif
+
+enum { N = 3, E = 2, NO_BYTES = 0 };
+
+static uint8_t table[CKPT_TABLE_LENGTH(N, E)];
+static uint8_t area[CKPT_FAILED_LENGTH(N) + 1];
+static int wrong;
+
+static void same(int line, const char *what, unsigned long got, unsigned long stated) {
+    if (got == stated) return;
+    printf("header.c:%d: %s is %lu, and not %lu\n", line, what, got, stated);
+    wrong = 1;
+}
+#define SAME(got, stated) same(__LINE__, #got, got, stated)
+
+static void put(size_t word, uint32_t value) {
+    for (size_t i = 0; i < 4; i++) table[4 * word + i] = (uint8_t)(value >> (24 - 8 * i) & 0xff);
+}
+
+#define LENT table, sizeof table
+static uint32_t fresh(uint32_t n, uint32_t e) { return ckpt_fresh(LENT, n, e); }
+static uint32_t checkpoint(uint32_t p) { return ckpt_checkpoint(LENT, area, CKPT_CHECKPOINT_LENGTH, p); }
+static uint32_t send(uint32_t p, uint32_t q) { return ckpt_send(LENT, area, CKPT_SEND_LENGTH, p, q); }
+static uint32_t receipt(uint32_t p, uint32_t q, uint32_t k) { return ckpt_receipt(LENT, area, CKPT_RECEIPT_LENGTH, p, q, k); }
+static uint32_t line(uint32_t number) { return ckpt_line(LENT, area, CKPT_LINE_LENGTH(N), number); }
+static uint32_t failed(uint32_t mask) { return ckpt_failed(LENT, area, CKPT_FAILED_LENGTH(N), mask); }
+
+/* All calls but fresh return the number, the table being lent with this length and an area longer than the answer by `more` bytes. */
+static void all(uint32_t number, uint8_t *lent, size_t length, size_t more) {
+    SAME(ckpt_checkpoint(lent, length, area, CKPT_CHECKPOINT_LENGTH + more, 0), number);
+    SAME(ckpt_send(lent, length, area, CKPT_SEND_LENGTH + more, 0, 1), number);
+    SAME(ckpt_receipt(lent, length, area, CKPT_RECEIPT_LENGTH + more, 0, 1, 1), number);
+    SAME(ckpt_line(lent, length, area, CKPT_LINE_LENGTH(N) + more, 0), number);
+    SAME(ckpt_failed(lent, length, area, CKPT_FAILED_LENGTH(N) + more, 0), number);
+}
+
+/* The rows' numbers, as the document has them. */
+static void numbers(void) {
+    SAME(CKPT_OK, 0);
+    SAME(CKPT_BAD_DIMENSIONS, 1);
+    SAME(CKPT_BAD_TABLE_LENGTH, 2);
+    SAME(CKPT_NOT_WELL_LAID, 3);
+    SAME(CKPT_BAD_AREA_LENGTH, 4);
+    SAME(CKPT_BAD_PROCESS, 5);
+    SAME(CKPT_BAD_OTHER_PROCESS, 6);
+    SAME(CKPT_NOT_SENT, 7);
+    SAME(CKPT_ALREADY_RECEIVED, 8);
+    SAME(CKPT_NO_RECORDS_LEFT, 9);
+    SAME(CKPT_NUMBER_AT_LIMIT, 10);
+    SAME(CKPT_BAD_MASK, 11);
+}
+
+/* Rows of the table itself: its length, n and E, its words. */
+static void table_rows(void) {
+    SAME(fresh(0, E), CKPT_BAD_DIMENSIONS);
+    SAME(fresh(CKPT_MAX_PROCESSES + 1, E), CKPT_BAD_DIMENSIONS);
+    SAME(fresh(N, 0), CKPT_BAD_DIMENSIONS);
+    SAME(fresh(N, CKPT_MAX_RECORDS + 1), CKPT_BAD_DIMENSIONS);
+    SAME(fresh(CKPT_MAX_PROCESSES, CKPT_MAX_RECORDS), CKPT_BAD_TABLE_LENGTH);
+    SAME(ckpt_fresh(table, sizeof table - 1, N, E), CKPT_BAD_TABLE_LENGTH);
+    SAME(fresh(N, E), CKPT_OK);
+    all(CKPT_BAD_TABLE_LENGTH, table, 7, 0);
+    all(CKPT_BAD_TABLE_LENGTH, table, sizeof table - 1, 0);
+    put(0, CKPT_MAX_PROCESSES + 1);
+    all(CKPT_BAD_DIMENSIONS, table, sizeof table, 0);
+    put(0, N);
+    put(2 + N * (3 + 3 * E) - 1, 1);
+    all(CKPT_NOT_WELL_LAID, table, sizeof table, 0);
+}
+
+static void later_rows(void) {
+    SAME(fresh(N, E), CKPT_OK);
+    all(CKPT_BAD_AREA_LENGTH, table, sizeof table, 1);
+    all(CKPT_BAD_AREA_LENGTH, table, sizeof table, (size_t)0 - 1); /* one byte shorter */
+    SAME(checkpoint(N), CKPT_BAD_PROCESS);
+    SAME(send(N, 0), CKPT_BAD_PROCESS);
+    SAME(receipt(N, 0, 1), CKPT_BAD_PROCESS);
+    SAME(send(0, N), CKPT_BAD_OTHER_PROCESS);
+    SAME(send(0, 0), CKPT_BAD_OTHER_PROCESS);
+    SAME(receipt(0, N, 1), CKPT_BAD_OTHER_PROCESS);
+    SAME(receipt(0, 0, 1), CKPT_BAD_OTHER_PROCESS);
+    SAME(checkpoint(0), CKPT_OK);
+    SAME(ckpt_word(area, 0), 1);
+    SAME(send(0, 1), CKPT_OK);
+    SAME(receipt(1, 0, 0), CKPT_NOT_SENT);
+    SAME(receipt(1, 0, 2), CKPT_NOT_SENT);
+    SAME(receipt(2, 0, 1), CKPT_NOT_SENT);
+    SAME(receipt(1, 0, 1), CKPT_OK);
+    SAME(ckpt_word(area, 0), 1);
+    SAME(ckpt_word(area, 1), 1);
+    SAME(receipt(1, 0, 1), CKPT_ALREADY_RECEIVED);
+    SAME(checkpoint(0), CKPT_NO_RECORDS_LEFT);
+    SAME(send(1, 0), CKPT_NO_RECORDS_LEFT);
+    SAME(line(0xffffffff), CKPT_OK);
+    SAME(ckpt_word(area, 1), 2);
+    SAME(failed(1u << N), CKPT_BAD_MASK);
+    SAME(failed(1), CKPT_OK);
+    SAME(ckpt_word(area, N), 3);
+    SAME(ckpt_word(area, N + 1), 2);
+}
+
+/* Number 10 is met only by a table that no call makes: n = 1, E = 2, one kind 1 record numbered 2. */
+static void number_at_limit(void) {
+    memset(table, 0, sizeof table);
+    put(0, 1);
+    put(1, 2);
+    put(2, 1);
+    put(3, 2);
+    put(5, 1);
+    put(6, 2);
+    SAME(ckpt_checkpoint(table, CKPT_TABLE_LENGTH(1, 2), area, CKPT_CHECKPOINT_LENGTH, 0), CKPT_NUMBER_AT_LIMIT);
+}
+
+/* A null pointer with length 0 is an area of no bytes. */
+static void no_bytes(void) {
+    SAME(ckpt_fresh(NULL, NO_BYTES, N, E), CKPT_BAD_TABLE_LENGTH);
+    SAME(ckpt_fresh(NULL, NO_BYTES, 0, E), CKPT_BAD_DIMENSIONS);
+    all(CKPT_BAD_TABLE_LENGTH, NULL, NO_BYTES, 0);
+    SAME(fresh(N, E), CKPT_OK);
+    SAME(ckpt_checkpoint(LENT, NULL, NO_BYTES, 0), CKPT_BAD_AREA_LENGTH);
+    SAME(ckpt_send(LENT, NULL, NO_BYTES, 0, 1), CKPT_BAD_AREA_LENGTH);
+    SAME(ckpt_receipt(LENT, NULL, NO_BYTES, 0, 1, 1), CKPT_BAD_AREA_LENGTH);
+    SAME(ckpt_line(LENT, NULL, NO_BYTES, 0), CKPT_BAD_AREA_LENGTH);
+    SAME(ckpt_failed(LENT, NULL, NO_BYTES, 0), CKPT_BAD_AREA_LENGTH);
+}
+
+static void lengths(void) {
+    uint32_t n = 8, e = 256;
+    uint8_t high[8] = {0, 0, 0, 0, 0xff, 0x80, 0x01, 0xfe};
+    SAME(CKPT_TABLE_LENGTH(1, 1), 32);
+    SAME(CKPT_TABLE_LENGTH(n, e), 24680);
+    SAME(CKPT_TABLE_LENGTH(n + 8, 4 * e), 196808);
+    SAME(CKPT_CHECKPOINT_LENGTH, 4);
+    SAME(CKPT_SEND_LENGTH, 8);
+    SAME(CKPT_RECEIPT_LENGTH, 8);
+    SAME(CKPT_LINE_LENGTH(n + 1), 36);
+    SAME(CKPT_FAILED_LENGTH(n + 1), 44);
+    SAME(ckpt_word(high, 1), 0xff8001fe);
+}
+
+int main(void) {
+    numbers();
+    lengths();
+    table_rows();
+    later_rows();
+    number_at_limit();
+    no_bytes();
+    return wrong;
+}
