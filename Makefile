@@ -2,8 +2,17 @@
 LIB = target/staticlib/libengine.a
 CFLAGS = -std=c99 -O2 -Wall -Wextra -Wpedantic
 CALLS = examples/worked.csv
+PREFIX = /usr/local
+VERSION = 0.1.0
+SECONDS = 60
 
-.PHONY: run program run-c lib test clean
+# where things are installed; DESTDIR is a folder to collect them in, for a package
+ifneq ($(word 2,$(PREFIX)),)
+$(error PREFIX is to be one path without spaces)
+endif
+into = $(DESTDIR)$(abspath $(PREFIX))
+
+.PHONY: run program run-c run-host lib install uninstall fuzz sizes test clean
 
 # runs the text program on a file of calls and prints calls and answers side by side; CALLS=FILE names another file
 run: program
@@ -20,13 +29,36 @@ program:
 run-c: target/worked
 	@./target/worked
 
+# runs the example host through a thousand restarts
+run-host: target/host
+	@./target/host
+
 # proves the engine and writes its archive
 lib:
 	@mkdir -p target
 	@rt staticlib engine > target/lib.log 2>&1 || { cat target/lib.log; exit 1; }
 
-target/worked: examples/worked.c include/ckpt.h lib
-	@$(CC) $(CFLAGS) -o $@ examples/worked.c $(LIB)
+target/worked target/host: target/%: examples/%.c include/ckpt.h lib
+	@$(CC) $(CFLAGS) -Iinclude -o $@ $< $(LIB)
+
+# installs header, archive and pkg-config file below PREFIX
+install: lib
+	@install -d '$(into)/include' '$(into)/lib/pkgconfig'
+	@install -m 644 include/ckpt.h '$(into)/include/ckpt.h'
+	@install -m 644 $(LIB) '$(into)/lib/libckpt.a'
+	@sed -e 's|@PREFIX@|$(abspath $(PREFIX))|' -e 's|@VERSION@|$(VERSION)|' ckpt.pc.in > target/ckpt.pc
+	@install -m 644 target/ckpt.pc '$(into)/lib/pkgconfig/ckpt.pc'
+
+uninstall:
+	@rm -f '$(into)/include/ckpt.h' '$(into)/lib/libckpt.a' '$(into)/lib/pkgconfig/ckpt.pc'
+
+# random calls beside the reference engine, for SECONDS=N seconds
+fuzz: lib
+	@tests/fuzz.sh $(SECONDS)
+
+# what the archive takes of a controller's memory
+sizes: lib
+	@tests/sizes.sh
 
 # proves every crate from nothing, tries the must-fail edits, and runs the tests from outside
 test:
