@@ -1,5 +1,6 @@
 /* The header's names against document 01, in what C99 and C++17 have in common. Every row of the document's table "Where a call is
-   stopped" is met by calls that meet no earlier one; the lengths are the document's; areas of no bytes are refused by their length. */
+   stopped" is met by calls that meet no earlier one; the lengths are the document's; areas of no bytes are refused by their
+   length. */
 #include <ckpt.h>
 #include <ckpt.h> /* once more: it may be included twice */
 
@@ -35,7 +36,8 @@ static uint32_t receipt(uint32_t p, uint32_t q, uint32_t k) { return ckpt_receip
 static uint32_t line(uint32_t number) { return ckpt_line(LENT, area, CKPT_LINE_LENGTH(N), number); }
 static uint32_t failed(uint32_t mask) { return ckpt_failed(LENT, area, CKPT_FAILED_LENGTH(N), mask); }
 
-/* All calls but fresh return the number, the table being lent with this length and an area longer than the answer by `more` bytes. */
+/* All calls but fresh return the number, the table being lent with this length, and an area longer than the answer by `more`
+   bytes. */
 static void all(uint32_t number, uint8_t *lent, size_t length, size_t more) {
     SAME(ckpt_checkpoint(lent, length, area, CKPT_CHECKPOINT_LENGTH + more, 0), number);
     SAME(ckpt_send(lent, length, area, CKPT_SEND_LENGTH + more, 0, 1), number);

@@ -1,6 +1,6 @@
-/* Prints how many bytes of stack each call takes, its arguments and return address included, rounded up to 64. A call runs on a painted
-   stack of its own, and what it paints over is counted. The frames don't depend on what is in a table but for the two sizes of a
-   failure line's notes, so a small and a large table show the most. Status 1 where a call takes more than ckpt.h says. */
+/* Prints how many bytes of stack each call takes, its arguments and return address included, rounded up to 64. A call runs on a
+   painted stack of its own, and what it paints over is counted. The frames don't depend on what is in a table but for the two sizes
+   of a failure line's notes, so a small and a large table show the most. Status 1 where a call takes more than ckpt.h says. */
 #include <stdio.h>
 #include <string.h>
 
@@ -39,8 +39,9 @@ static size_t used(void (*call)(void)) {
     __asm__ volatile("movq %%rsp, %%r12\n\tmovq %0, %%rsp\n\tcall *%1\n\tmovq %%r12, %%rsp"
                      :
                      : "r"(stack + sizeof stack), "r"(call)
-                     : "r12", "rax", "rcx", "rdx", "rsi", "rdi", "r8", "r9", "r10", "r11", "memory", "cc", "xmm0", "xmm1", "xmm2",
-                       "xmm3", "xmm4", "xmm5", "xmm6", "xmm7", "xmm8", "xmm9", "xmm10", "xmm11", "xmm12", "xmm13", "xmm14", "xmm15");
+                     : "r12", "rax", "rcx", "rdx", "rsi", "rdi", "r8", "r9", "r10", "r11", "memory", "cc", "xmm0", "xmm1",
+                       "xmm2", "xmm3", "xmm4", "xmm5", "xmm6", "xmm7", "xmm8", "xmm9", "xmm10", "xmm11", "xmm12", "xmm13",
+                       "xmm14", "xmm15");
     while (kept < sizeof stack && stack[kept] == PAINT) kept++;
     return sizeof stack - kept;
 }

@@ -7,6 +7,7 @@ use std::env;
 use std::fmt;
 
 pub mod cuts;
+pub mod drawn;
 pub mod program;
 pub mod texts;
 
@@ -76,6 +77,9 @@ impl Lent {
     }
 }
 
+/// How a call reaches an engine: on these bytes for a table and an area. Answers the number returned.
+pub type Engine = fn(Call, &mut [u8], &mut [u8]) -> u32;
+
 /// The call on the proved engine alone.
 pub fn on_proved(call: Call, table: &mut [u8], area: &mut [u8]) -> u32 {
     match call {
@@ -102,6 +106,7 @@ pub fn on_reference(call: Call, table: &mut [u8], area: &mut [u8]) -> u32 {
 
 /// A table lent to the proved engine, and the same table lent to the reference engine.
 pub struct Pair {
+    engine: Engine,
     proved: Lent,
     reference: Lent,
     before: Vec<u8>,
@@ -110,7 +115,13 @@ pub struct Pair {
 
 impl Pair {
     pub fn new(table: &[u8], origin: Origin) -> Pair {
-        Pair { proved: Lent::new(table), reference: Lent::new(table), before: table.to_vec(), origin }
+        Pair::on(on_proved, table, origin)
+    }
+
+    /// A pair whose calls reach the proved engine in this way.
+    pub fn on(engine: Engine, table: &[u8], origin: Origin) -> Pair {
+        let (proved, reference) = (Lent::new(table), Lent::new(table));
+        Pair { engine, proved, reference, before: table.to_vec(), origin }
     }
 
     /// A pair on which fresh has made a table, over bytes that were no table.
@@ -134,7 +145,7 @@ impl Pair {
     pub fn call(&mut self, call: Call, area: &[u8]) -> (u32, Vec<u8>) {
         self.before.copy_from_slice(self.proved.content());
         let (mut own, mut other) = (Lent::new(area), Lent::new(area));
-        let returned = on_proved(call, self.proved.content_mut(), own.content_mut());
+        let returned = (self.engine)(call, self.proved.content_mut(), own.content_mut());
         let expected = on_reference(call, self.reference.content_mut(), other.content_mut());
         let keeps = |holds: bool, what: &str| {
             if !holds {

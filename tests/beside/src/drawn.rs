@@ -1,0 +1,199 @@
+//! Random cases, each a table and calls on it, drawn from a seed and made beside the reference engine: runs from fresh,
+//! well laid tables that no run makes, damaged bytes, wrong lengths and extreme numbers.
+use crate::{Engine, Origin, Pair};
+use cases::{area_length, damage, messages, remember, step_or_line, table_length, well_laid, Call, Rng};
+use std::fmt;
+
+pub const NAMES: [&str; 6] = ["fresh", "checkpoint", "send", "receipt", "line", "failed"];
+
+/// The numbers that document 01's rows let each call return, in the order of NAMES.
+pub const NUMBERS: [&[usize]; 6] = [
+    &[0, 1, 2],
+    &[0, 1, 2, 3, 4, 5, 9, 10],
+    &[0, 1, 2, 3, 4, 5, 6, 9],
+    &[0, 1, 2, 3, 4, 5, 6, 7, 8, 9],
+    &[0, 1, 2, 3, 4],
+    &[0, 1, 2, 3, 4, 11],
+];
+
+/// The most steps of a run from fresh.
+const MOST: u32 = 300;
+
+/// The call's place in NAMES.
+pub fn place(call: Call) -> usize {
+    match call {
+        Call::Fresh { .. } => 0,
+        Call::Checkpoint { .. } => 1,
+        Call::Send { .. } => 2,
+        Call::Receipt { .. } => 3,
+        Call::Line { .. } => 4,
+        Call::Failed { .. } => 5,
+    }
+}
+
+/// How often each call returned each number, and how many calls were made on tables of the largest dimensions.
+#[derive(Default)]
+pub struct Tally {
+    pub counts: [[u64; 12]; 6],
+    pub largest: u64,
+}
+
+impl Tally {
+    pub fn total(&self) -> u64 {
+        self.counts.iter().flatten().sum()
+    }
+
+    pub fn met(&self, row: usize) -> Vec<usize> {
+        (0..12).filter(|&number| self.counts[row][number] > 0).collect()
+    }
+}
+
+impl fmt::Display for Tally {
+    fn fmt(&self, f: &mut fmt::Formatter) -> fmt::Result {
+        write!(f, "{:10}", "returned")?;
+        (0..12).try_for_each(|number| write!(f, "{number:>9}"))?;
+        for (name, counts) in NAMES.iter().zip(&self.counts) {
+            write!(f, "\n{name:10}")?;
+            counts.iter().try_for_each(|count| write!(f, "{count:>9}"))?;
+        }
+        Ok(())
+    }
+}
+
+/// A pair on a table, the calls made on it counted.
+pub struct Case<'a> {
+    pub pair: Pair,
+    pub rng: Rng,
+    pub n: u32,
+    pub e: u32,
+    pub tally: &'a mut Tally,
+}
+
+impl Case<'_> {
+    fn call(&mut self, call: Call) -> u32 {
+        let length = area_length(&mut self.rng, call.area_length(self.n));
+        let area = self.rng.bytes(length);
+        let returned = self.pair.call(call, &area).0;
+        self.tally.counts[place(call)][returned as usize] += 1;
+        self.tally.largest += u64::from((self.n, self.e) == (16, 1024));
+        returned
+    }
+
+    /// Fresh, now and then with other dimensions than the table's.
+    fn fresh(&mut self) -> u32 {
+        let (n, e) = (self.n, self.e);
+        let call = match self.rng.below(4) {
+            0 => Call::Fresh { n: self.rng.extreme(n, e), e },
+            1 => Call::Fresh { n, e: self.rng.extreme(n, e) },
+            _ => Call::Fresh { n, e },
+        };
+        self.call(call)
+    }
+
+    /// Steps and lines on the table as it is, whose messages are known.
+    pub fn steps(&mut self, count: u32, mut known: Vec<Call>) {
+        for _ in 0..count {
+            let call = step_or_line(&mut self.rng, self.n, self.e, &known);
+            if self.call(call) == 0 {
+                remember(&mut self.rng, &mut known, call, self.pair.table());
+            }
+        }
+    }
+
+    /// A run from fresh, over bytes that were anything.
+    fn run_from_fresh(&mut self) {
+        let (n, e) = (self.n, self.e);
+        assert_eq!(self.call(Call::Fresh { n, e }), 0, "{}", self.pair.origin());
+        let count = self.rng.below(2 * n * e + 8).min(MOST);
+        self.steps(count, Vec::new());
+    }
+
+    /// Steps and lines on a well laid table that no run made.
+    fn run_from_well_laid(&mut self) {
+        let known = messages(self.pair.table());
+        self.steps(24, known);
+        self.fresh();
+    }
+
+    /// Each kind of call once, fresh last as it would repair the table.
+    fn one_of_each(&mut self) {
+        let (n, e, rng) = (self.n, self.e, &mut self.rng);
+        let (p, q, k) = (rng.around(n, n, e), rng.around(n, n, e), rng.around(e + 1, n, e));
+        let (number, mask) = (rng.around(n * e + 2, n, e), rng.mask(n));
+        self.call(Call::Checkpoint { p });
+        self.call(Call::Send { p, q });
+        self.call(Call::Receipt { p, q, k });
+        self.call(Call::Line { number });
+        self.call(Call::Failed { mask });
+        self.fresh();
+    }
+}
+
+fn damaged(rng: &mut Rng, n: u32, e: u32) -> Vec<u8> {
+    let mut table = well_laid(rng, n, e);
+    damage(rng, &mut table, n, e);
+    table
+}
+
+/// A good table cut off or with bytes added, or no table at all.
+fn wrong_length(rng: &mut Rng, n: u32, e: u32) -> Vec<u8> {
+    let mut table = well_laid(rng, n, e);
+    let length = table.len();
+    let other = match rng.below(6) {
+        0 => rng.below(9) as usize,
+        1 => length - 1,
+        2 => length + 1,
+        3 => length + 12,
+        4 => rng.below(length as u32) as usize,
+        _ => length + rng.below(64) as usize,
+    };
+    table.resize(other, 0);
+    if rng.one_in(8) {
+        table = rng.bytes(other);
+    }
+    table
+}
+
+/// How n and E of a case are drawn.
+pub type Dimensions = fn(&mut Rng) -> (u32, u32);
+
+/// Draws the case of this origin and makes its calls, which reach the proved engine in this way.
+pub fn run_case(engine: Engine, origin: Origin, dimensions: Dimensions, tally: &mut Tally) {
+    let mut rng = origin.rng();
+    let (n, e) = dimensions(&mut rng);
+    let sort = rng.below(8);
+    let table = match sort {
+        0..=2 => vec![0xEE; table_length(n, e)],
+        3 | 4 => well_laid(&mut rng, n, e),
+        5 | 6 => damaged(&mut rng, n, e),
+        _ => wrong_length(&mut rng, n, e),
+    };
+    let mut case = Case { pair: Pair::on(engine, &table, origin), rng, n, e, tally };
+    match sort {
+        0..=2 => case.run_from_fresh(),
+        3 | 4 => case.run_from_well_laid(),
+        _ => case.one_of_each(),
+    }
+}
+
+pub fn small(rng: &mut Rng) -> (u32, u32) {
+    (1 + rng.below(4), 1 + rng.below(8))
+}
+
+pub fn middle(rng: &mut Rng) -> (u32, u32) {
+    (1 + rng.below(16), 1 + rng.below(64))
+}
+
+pub fn large(rng: &mut Rng) -> (u32, u32) {
+    let any = (1 + rng.below(16), 1 + rng.below(1024));
+    rng.pick(&[any, any, (8, 256), (1, 1024), (2, 1024), (16, 1024)])
+}
+
+/// Mostly small: a call on a large table takes as long as hundreds on small ones.
+pub fn mixed(rng: &mut Rng) -> (u32, u32) {
+    match rng.below(512) {
+        0 => large(rng),
+        1..=16 => middle(rng),
+        _ => small(rng),
+    }
+}

@@ -1,0 +1,68 @@
+/* An engine that goes wrong, to see that the fuzzer finds it (tests/overruns.sh): ckpt_line and ckpt_send of the archive, wrapped
+   by the linker. -DTOUCH is what both do first, one of the functions below on a lent block; without it they do what the archive's
+   do. -DWRONG_NUMBER makes ckpt_send return 5 where 6 is due. Compiled without a sanitizer, as the archive is. */
+#include <string.h>
+
+#include <ckpt.h>
+
+uint32_t __real_ckpt_line(const uint8_t *table, size_t table_len, uint8_t *area, size_t area_len, uint32_t number);
+uint32_t __real_ckpt_send(uint8_t *table, size_t table_len, uint8_t *area, size_t area_len, uint32_t p, uint32_t q);
+
+#ifndef TOUCH
+#define TOUCH (void)0
+#endif
+
+static inline void reads(const uint8_t *byte) {
+    (void)*(const volatile uint8_t *)byte;
+}
+
+/* Writes the byte that is there, in one access, so that the write itself is what is found. */
+static inline void writes(const uint8_t *byte) {
+    __atomic_fetch_or((volatile uint8_t *)byte, 0, __ATOMIC_RELAXED);
+}
+
+/* A block of no bytes is left alone: it may be a null pointer, and no closed page is needed to find those. */
+
+static inline void read_before(const uint8_t *block, size_t length) {
+    if (length > 0) reads(block - 1);
+}
+
+static inline void read_behind(const uint8_t *block, size_t length) {
+    if (length > 0) reads(block + length);
+}
+
+static inline void write_before(const uint8_t *block, size_t length) {
+    if (length > 0) writes(block - 1);
+}
+
+static inline void write_behind(const uint8_t *block, size_t length) {
+    if (length > 0) writes(block + length);
+}
+
+/* The last two are for heap blocks, so they leave alone what ends with a page: there the closed page behind it would tell. */
+static inline int ends_within_page(const uint8_t *block, size_t length) {
+    return length > 0 && (uintptr_t)(block + length) % 4096 != 0;
+}
+
+static inline void memcpy_behind(const uint8_t *block, size_t length) {
+    uint8_t copy[2];
+    if (ends_within_page(block, length)) memcpy(copy, block + length - 1, 2);
+}
+
+static inline void memset_behind(const uint8_t *block, size_t length) {
+    if (ends_within_page(block, length)) memset((uint8_t *)block + length, 0, 1);
+}
+
+uint32_t __wrap_ckpt_line(const uint8_t *table, size_t table_len, uint8_t *area, size_t area_len, uint32_t number) {
+    TOUCH;
+    return __real_ckpt_line(table, table_len, area, area_len, number);
+}
+
+uint32_t __wrap_ckpt_send(uint8_t *table, size_t table_len, uint8_t *area, size_t area_len, uint32_t p, uint32_t q) {
+    TOUCH;
+    uint32_t returned = __real_ckpt_send(table, table_len, area, area_len, p, q);
+#ifdef WRONG_NUMBER
+    if (returned == 6) return 5;
+#endif
+    return returned;
+}

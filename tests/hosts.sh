@@ -1,0 +1,22 @@
+# shellcheck shell=bash disable=SC2034
+# How C hosts of the archive are built, for the scripts beside it, which have gone to the repository's top.
+
+made=target/tests
+lib=target/staticlib/libengine.a
+strict=(-Wall -Wextra -Wpedantic -Werror -Iinclude)
+sanitized=(-O1 -g "-fsanitize=address,undefined" -fno-sanitize-recover=all)
+
+archive_made() {
+    [ -f "$lib" ] || {
+        echo "$lib is missing: run \`make lib\` first" >&2
+        return 1
+    }
+    mkdir -p "$made"
+}
+
+# host_of SOURCE PROGRAM WORDS..: builds a C99 host of the archive, with these words for the compiler
+host_of() {
+    local source=$1 program=$2
+    shift 2
+    ${CC:-cc} -std=c99 "${strict[@]}" "$@" -o "$program" "$source" "$lib"
+}
