@@ -52,9 +52,9 @@ install: lib
 uninstall:
 	@rm -f '$(into)/include/ckpt.h' '$(into)/lib/libckpt.a' '$(into)/lib/pkgconfig/ckpt.pc'
 
-# random calls beside the reference engine, for SECONDS=N seconds
+# random calls beside the reference engine, for SECONDS=N seconds; SEED=N and CASE=N make those of an earlier run again
 fuzz: lib
-	@tests/fuzz.sh $(SECONDS)
+	@tests/fuzz.sh $(SECONDS) $(SEED) $(CASE)
 
 # what the archive takes of a controller's memory
 sizes: lib

@@ -1,9 +1,9 @@
 /* A control program on the checkpoint table.
 
-   Collectors read the meters of flats and report new pulses to the tariff process, which passes them on to the ledger that bills the
-   flat. Messages overtake each other. Each process saves its state now and then, and when the table says so. When processes fail,
-   the failure line names the states to go on from: the host reloads them and sends again what was in transit. After every restart
-   it lets all pulses reach the ledgers and compares these with the meters' own registers.
+   Collectors read the meters of flats and report new pulses to the tariff process, which passes them on to the ledger that bills
+   the flat. Messages overtake each other. Each process saves its state now and then, and when the table says so. When processes
+   fail, the failure line names the states to go on from: the host reloads them and sends again what was in transit. After every
+   restart it lets all pulses reach the ledgers and compares these with the meters' own registers.
 
    host [SEED]                   a thousand random restarts; the last line is 'ledgers equal registers', and the status is 0
    host --ignore-lines [SEED]    the same, but each process reloads its own last save: flats are billed for pulses twice, and the
@@ -77,8 +77,8 @@ static void begin(void) {
 
 static bool post(uint32_t from, uint32_t to, uint32_t flat, uint32_t pulses, bool owed);
 
-/* Goes on from the failure line of the mask: with its states, on a fresh table, and with what was in transit sent again. Of a mask of 0
-   this is the line of all running states, so nobody goes back. */
+/* Goes on from the failure line of the mask: with its states, on a fresh table, and with what was in transit sent again. The line
+   of mask 0 has all running states, so nobody goes back. */
 static void restart(uint32_t failed) {
     static struct message again[N * E];
     uint8_t area[CKPT_FAILED_LENGTH(N)];
@@ -102,7 +102,8 @@ static void restart(uint32_t failed) {
     seen.again += count;
 }
 
-/* Whether a call was accepted. If its process has no records left, the host goes on with a fresh table, and the call can be tried again. */
+/* Whether a call was accepted. If its process has no records left, the host goes on with a fresh table, and the call can be tried
+   again. */
 static bool accepted(uint32_t number) {
     if (number != CKPT_NO_RECORDS_LEFT) {
         must(number);
@@ -205,7 +206,8 @@ static bool ledgers_equal_registers(void) {
     for (uint32_t flat = 0; flat < FLATS; flat++) {
         uint32_t billed = running[ledger_of(flat)].pulses[flat];
         if (billed == meter[flat]) continue;
-        printf("flat %u: its meter counted %u pulses, its ledger has %u\n", (unsigned)flat, (unsigned)meter[flat], (unsigned)billed);
+        printf("flat %u: its meter counted %u pulses, its ledger has %u\n", (unsigned)flat, (unsigned)meter[flat],
+               (unsigned)billed);
         equal = false;
     }
     return equal;
@@ -231,7 +233,8 @@ int main(int argc, char **argv) {
             return 1;
         }
         if (restarts % 100 == 0) {
-            printf("%4d restarts: saves %lu and forced %lu, received %lu, overtaking %lu, sent again %lu, went back %lu, tables full %lu\n",
+            printf("%4d restarts: saves %lu and forced %lu, received %lu, overtaking %lu, sent again %lu, went back %lu, "
+                   "tables full %lu\n",
                    restarts, seen.saves, seen.forced, seen.received, seen.overtaking, seen.again, seen.back, seen.full);
         }
     }

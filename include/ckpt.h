@@ -1,21 +1,21 @@
 /* The checkpoint table of a block controller and its restart lines (document 01), over lent bytes.
 
-   The caller lends a table and an area for the answer. A call that is accepted returns CKPT_OK. Any other number is that of the first
-   check that stopped it, and table and area are then as they were, whatever bytes, lengths and numbers came in. Each call below
-   lists the numbers that it can return, in the order in which it checks.
+   The caller lends a table and an area for the answer. A call that is accepted returns CKPT_OK. Any other number is that of the
+   first check that stopped it, and table and area are then as they were, whatever bytes, lengths and numbers came in. Each call
+   below lists the numbers that it can return, in the order in which it checks.
 
    Words in tables and areas are XDR unsigned integers: four bytes, most significant first. ckpt_word reads one.
 
    What the caller sees to:
    - A pointer and its length stand for bytes that may be read and, where the pointer is not const, written. Any alignment will do.
-   - Table and area do not overlap, and nobody else writes them during a call, nor reads what the call may write.
-   - A null pointer with length 0 is an area of no bytes, which no call looks at. With any other length a null pointer is an error that
-     no call can see.
+   - Table and area do not overlap. Nobody else writes them during a call, nor reads what the call may write.
+   - A null pointer with length 0 is an area of no bytes: no call looks at it, and its length stops the call. A null pointer with
+     any other length is an error that no call can see.
    - ckpt_failed needs 19 KiB of stack, every other call less than 512 bytes.
 
-   Calls keep nothing of their own. They may run at the same time on different tables, and ckpt_line and ckpt_failed on one table too,
-   each with its own area. A call that is cut short, as by a power cut, may leave a part of what it writes: who keeps tables in storage
-   keeps the last whole one until the next is whole. */
+   Calls keep nothing of their own. They may run at the same time on different tables, and ckpt_line and ckpt_failed on one table
+   too, each with its own area. A call that is cut short, as by a power cut, may leave a part of what it writes: who keeps tables in
+   storage keeps the last whole one until the next is whole. */
 #ifndef CKPT_H
 #define CKPT_H
 
@@ -68,15 +68,15 @@ uint32_t ckpt_fresh(uint8_t *table, size_t table_len, uint32_t n, uint32_t e);
    CKPT_NO_RECORDS_LEFT, CKPT_NUMBER_AT_LIMIT, CKPT_OK. */
 uint32_t ckpt_checkpoint(uint8_t *table, size_t table_len, uint8_t *area, size_t area_len, uint32_t p);
 
-/* Process p sends a message to q. Adds the send to the table; the area gets its send number, which with p names the message, and the
-   number it carries.
+/* Process p sends a message to q. Adds the send to the table; the area gets its send number, which with p names the message, and
+   the number it carries.
    Returns CKPT_BAD_TABLE_LENGTH, CKPT_BAD_DIMENSIONS, CKPT_NOT_WELL_LAID, CKPT_BAD_AREA_LENGTH, CKPT_BAD_PROCESS,
    CKPT_BAD_OTHER_PROCESS, CKPT_NO_RECORDS_LEFT, CKPT_OK. */
 uint32_t ckpt_send(uint8_t *table, size_t table_len, uint8_t *area, size_t area_len, uint32_t p, uint32_t q);
 
-/* Process p receives send k of q, in any order, each once. Adds the receipt to the table, and a forced checkpoint before it where one
-   is due. The area gets the carried number, then 1 if it forced and 0 if not: after a 1 the host saves the state of p before p takes
-   the message.
+/* Process p receives send k of q, in any order, each once. Adds the receipt to the table, and a forced checkpoint before it where
+   one is due. The area gets the carried number, then 1 if it forced and 0 if not: after a 1 the host saves the state of p before p
+   takes the message.
    Returns CKPT_BAD_TABLE_LENGTH, CKPT_BAD_DIMENSIONS, CKPT_NOT_WELL_LAID, CKPT_BAD_AREA_LENGTH, CKPT_BAD_PROCESS,
    CKPT_BAD_OTHER_PROCESS, CKPT_NOT_SENT, CKPT_ALREADY_RECEIVED, CKPT_NO_RECORDS_LEFT, CKPT_OK. */
 uint32_t ckpt_receipt(uint8_t *table, size_t table_len, uint8_t *area, size_t area_len, uint32_t p, uint32_t q, uint32_t k);

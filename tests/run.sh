@@ -1,11 +1,12 @@
 #!/usr/bin/env bash
 # The tests from outside, to be run once `rt ci` has passed: they link the archive of the proved engine, start the proved text
-# program, and run both beside the reference engine. Writes under target/ only. The last line is 'N passed, M failed', and the status
-# is 0 where M is 0.
+# program, and run both beside the reference engine. Writes under target/ and into a temporary folder that it removes. The last line
+# is 'N passed, M failed', and the status is 0 where M is 0.
 set -uo pipefail
 cd "$(dirname "$0")/.." || exit 2
 
-made=target/tests
+# shellcheck source=tests/library.sh
+. tests/library.sh
 mkdir -p "$made" || exit 2
 export CARGO_TARGET_DIR="$PWD/$made"
 # The engine and the program that are tested are those that this repository makes.
@@ -70,13 +71,20 @@ examples_answered() {
     cmp examples/listing.csv crates/ckpt/stdin && cmp examples/worked.csv crates/worked/stdin
 }
 
-worked_host() {
-    ${CC:-cc} -std=c99 -O2 -Wall -Wextra -Wpedantic -Werror -o "$made/worked" examples/worked.c target/staticlib/libengine.a &&
-        "$made/worked"
-}
-
-check "the engine's archive" rt staticlib engine
+check "the engine's archive" make lib
 check "the worked controller from C" worked_host
+check "the header as C99 and document 01's table" header_in_c99
+check "the header as C++17" header_in_cpp17
+check "the archive exports the header's calls alone" symbols
+check "an installed library is found and linked by pkg-config" installed
+check "a program without a C library" freestanding
+check "the sizes in the README" sizes_current
+check "a thousand restarts: ledgers equal registers" host_restarts
+check "lines ignored: ledgers differ" host_ignores_lines
+check "wrong hosts: ledgers differ" wrong_hosts
+check "hosts under sanitizers" sanitized_hosts
+check "an engine that oversteps its areas is caught" tests/overruns.sh
+check "ten seconds of random calls under sanitizers" tests/fuzz.sh 10
 check "the text program is there" program_made
 check "the examples are answered as written" examples_answered
 check "the reference engine is as it was taken over" reference_unchanged

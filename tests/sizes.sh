@@ -4,13 +4,9 @@
 set -uo pipefail
 cd "$(dirname "$0")/.." || exit 2
 
-lib=target/staticlib/libengine.a
-made=target/tests
-[ -f "$lib" ] || {
-    echo "$lib is missing: run \`make lib\` first" >&2
-    exit 2
-}
-mkdir -p "$made" || exit 2
+# shellcheck source=tests/hosts.sh
+. tests/hosts.sh
+archive_made || exit 2
 
 # bytes REGEX: the bytes in sections with such names
 bytes() {
@@ -21,4 +17,4 @@ echo "| code | $(bytes '^\.text') |"
 echo "| constants | $(bytes '^\.rodata') |"
 echo "| writable data | $(bytes '^\.(data|bss|tdata|tbss)') |"
 # Names are bound at the start: binding one in a call would take stack for it.
-${CC:-cc} -std=c99 -O2 -Wall -Wextra -Wpedantic -Werror -Iinclude -Wl,-z,now -o "$made/stack" tests/c/stack.c "$lib" && "$made/stack"
+host_of tests/c/stack.c "$made/stack" -O2 -Wl,-z,now && "$made/stack"
