@@ -192,8 +192,11 @@ static bool all_passed_on(void) {
 static void settle(void) {
     struct message *m;
     while ((m = in_transit()) || !all_passed_on()) {
-        if (m) receive(m);
-        for (uint32_t flat = 0; !m && flat < FLATS; flat++) {
+        if (m) {
+            receive(m);
+            continue;
+        }
+        for (uint32_t flat = 0; flat < FLATS; flat++) {
             report(flat);
             pass_on(flat);
         }

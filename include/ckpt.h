@@ -37,7 +37,7 @@ extern "C" {
 #define CKPT_NOT_SENT 7u          /* q has no send k, or sent it to another process than p */
 #define CKPT_ALREADY_RECEIVED 8u  /* p has a receipt of send k of q already */
 #define CKPT_NO_RECORDS_LEFT 9u   /* p has fewer records free than needed: 2 for a receipt that forces, else 1 */
-#define CKPT_NUMBER_AT_LIMIT 10u  /* p's number is n * e already; no table that these calls made has it */
+#define CKPT_NUMBER_AT_LIMIT 10u  /* p's number is n * e already; not met on tables that these calls made */
 #define CKPT_BAD_MASK 11u         /* the mask has a bit at n or above */
 
 /* The ranges: n processes, 1 to 16, named 0 to n - 1, with e records each, 1 to 1024. */
