@@ -160,7 +160,8 @@ static struct message *in_transit(void) {
 }
 
 static void report(uint32_t flat) {
-    uint32_t *reported = &running[collector_of(flat)].pulses[flat], now = meter[flat];
+    uint32_t *reported = &running[collector_of(flat)].pulses[flat];
+    uint32_t now = meter[flat];
     if (now != *reported && post(collector_of(flat), TARIFF, flat, now - *reported, false)) *reported = now;
 }
 
@@ -172,7 +173,8 @@ static void pass_on(uint32_t flat) {
 /* A meter counts, and one process does something. */
 static void turn(void) {
     struct message *m;
-    meter[below(FLATS)] += below(9);
+    uint32_t flat = below(FLATS);
+    meter[flat] += below(9);
     switch (below(8)) {
     case 0: checkpoint(below(N)); break;
     case 1: case 2: report(below(FLATS)); break;
@@ -221,7 +223,10 @@ int main(int argc, char **argv) {
         char *end;
         if (!strcmp(argv[i], "--ignore-lines")) {
             ignore_lines = true;
-        } else if (seed = strtoull(argv[i], &end, 10), end == argv[i] || *end) {
+            continue;
+        }
+        seed = strtoull(argv[i], &end, 10);
+        if (end == argv[i] || *end) {
             fputs("usage: host [--ignore-lines] [SEED]\n", stderr);
             return 2;
         }
