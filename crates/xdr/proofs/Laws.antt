@@ -66,6 +66,42 @@ byte-digits x y z u w a b c d e =
     let h : w / 256 ≡ x * 65536 + y * 256 + z = omega arith in
     (omega arith, omega arith, omega arith, omega arith)
 
+-- ---- words turned
+
+byte-lt : (x : ℕ) → x % 256 < 256
+byte-lt x = omega arith
+
+top-lt : (v : ℕ) → v < 4294967296 → v / 16777216 < 256
+top-lt v l = omega arith
+
+top-byte : (v d : ℕ) → v / 16777216 % 256 ≡ d → v < 4294967296 → v / 16777216 ≡ d
+top-byte v d e l = let t = top-lt v l in omega arith
+
+sum-lt : (x y z u v : ℕ) → x < 256 → y < 256 → z < 256 → u < 256 → x * 16777216 + y * 65536 + z * 256 + u ≡ v → v < 4294967296
+sum-lt x y z u v xl yl zl ul e = omega arith
+
+-- four bytes joined with the least first, and turned
+pub turned-join : (a b c d v : ℕ) → a < 256 → b < 256 → c < 256 → d < 256 → v ≡ a + b * 256 + c * 65536 + d * 16777216
+    → v % 256 * 16777216 + v / 256 % 256 * 65536 + v / 65536 % 256 * 256 + v / 16777216 ≡ a * 16777216 + b * 65536 + c * 256 + d
+turned-join a b c d v al bl cl dl e =
+    let s : d * 16777216 + c * 65536 + b * 256 + a ≡ v = omega arith in
+    let x = byte-digits d c b a v dl cl bl al s in
+    let t = top-byte v d (sym (x .0)) (sum-lt d c b a v dl cl bl al s) in
+    rw (t, ← x .1, ← x .2, ← x .3)
+
+-- the bytes of v turned, the least first
+pub turned-bytes : (v w : ℕ) → v < 4294967296 → w ≡ v % 256 * 16777216 + v / 256 % 256 * 65536 + v / 65536 % 256 * 256 + v / 16777216
+    → (w % 256 ≡ v / 16777216 % 256) × (w / 256 % 256 ≡ v / 65536 % 256) × (w / 65536 % 256 ≡ v / 256 % 256) × (w / 16777216 ≡ v % 256)
+turned-bytes v w l h =
+    let al = top-lt v l in
+    let x = byte-digits (v % 256) (v / 256 % 256) (v / 65536 % 256) (v / 16777216) w (byte-lt v) (byte-lt (v / 256)) (byte-lt (v / 65536)) al (sym h) in (
+      sym (x .3) ∙ sym (mod-eq-of-lt al),
+      sym (x .2),
+      sym (x .1),
+      top-byte w (v % 256) (sym (x .0))
+          (sum-lt (v % 256) (v / 256 % 256) (v / 65536 % 256) (v / 16777216) w (byte-lt v) (byte-lt (v / 256)) (byte-lt (v / 65536)) al (sym h)),
+    )
+
 word-cons : (x y z u : ℕ) (t : List ℕ) (i : ℕ) → word (x ∷ y ∷ z ∷ u ∷ t) (suc i) ≡ word t i
 unfolding word
 word-cons x y z u t i =
