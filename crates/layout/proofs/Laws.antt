@@ -1,56 +1,116 @@
 -- A record's test without branches, the tests of a section and a table put together, and a fresh table.
-use mathlib.Core.Path.{_≡_, refl, sym, _∙_}
+use mathlib.Core.Path.{_≡_, refl, sym, ap, _∙_}
 use mathlib.Core.Logic.{_≢_}
 use mathlib.Core.List.{List, [], _∷_}
-use mathlib.Core.Bool.{Bool, true, false, not, _&&_, _||_, and-true, and-false}
-use Prim.Native.Nat.{ℕ, zero, suc, _+_, _-_, _*_, _≤_, _<_}
+use mathlib.Core.Bool.{Bool, true, false, _&&_, and-true, and-false, and-assoc, and-comm, and-eq-true-iff, false≢true}
+use Prim.Native.Nat.{ℕ, zero, suc, _+_, _-_, _*_, _/_, _≤_, _<_}
+use native.Mathlib.Nat.{add-zero, zero-mul, mul-le-mul-left, mul-le-mul-right}
 use native.Mathlib.Numerals.{add-one}
-use lib.Dec.{eqb, leb, ltb}
+use lib.Dec.{eqb, leb}
+use lib.Bits.{bitAnd, bitOr, bitXor, or-shifted}
 use lib.ListN.{length, getD, replicate}
 use native.Mathlib.Omega.{arith}
-use borrow.Author.Tests.{eqb-true, eqb-false, le-leb, lt-leb, lt-ltb, le-ltb, eq-eqb, ne-eqb}
+use native.Mathlib.Decide.{decLt}
+use borrow.Author.Tests.{eqb-true, eqb-false, leb-true, le-leb, lt-leb, lt-ltb, le-ltb, eq-eqb, ne-eqb}
 use Rattle.xdr.specs.Words.{word, putWords}
 use Rattle.rules.specs.Records.{number, sends}
-use Rattle.rules.specs.Table.{inRange, size, start, recordsAt, recordOk, recordsOk, zerosAt, sectionOk, sectionsOk, wellLaid}
+use Rattle.rules.specs.Table.{inRange, size, start, recordsAt, recordsOk, zerosAt, sectionOk, sectionsOk, wellLaid}
+use Rattle.layout.specs.Marks.{clear}
 use Rattle.layout.specs.Zeros.{zeroBytes}
+use Rattle.layout.specs.Sections.{every, rearOk, frontOk}
+use Rattle.layout.proofs.Marks.{interchange, or-zero, xor-zero, marks-zero}
 use Rattle.rules.specs.Calls.{outcome, first, tableRows, freshOn}
 use Rattle.theorems.proofs.OneCall.{in-range}
 use Rattle.theorems.proofs.Fresh.{fresh-layout}
 use Rattle.theorems.proofs.Histories.{Test, passes, fails, test}
 
-or-none : (x : Bool) → (x || false) ≡ x
-or-none true = refl
-or-none false = refl
-
--- the first of five tests, moved to the end
-moved : (c d f g h : Bool) → (c && d && f && g && h) ≡ (d && f && g && h && c)
-moved true d f g h = sym (and-true (d && f && g && h))
-moved false d f g h = sym (and-false (d && f && g && h))
-
-pub record-fold : (n e most p k kind a b : ℕ) → most ≡ n * e
-    → (((eqb kind 1 || eqb kind 2) && leb a most && eqb b 0)
-    || ((eqb kind 4 || (eqb kind 3 && eqb b (k + 1))) && ltb a n && not (eqb a p) && ltb 0 b && leb b e))
-    ≡ recordOk n e p k kind a b
-record-fold n e most p k kind a b m = rw (m, add-one) (one (test (eqb kind 1)) (test (eqb kind 2)) (test (eqb kind 3)) (test (eqb kind 4)))
-  where
-    one : Test (eqb kind 1) → Test (eqb kind 2) → Test (eqb kind 3) → Test (eqb kind 4)
-        → (((eqb kind 1 || eqb kind 2) && leb a (n * e) && eqb b 0)
-        || ((eqb kind 4 || (eqb kind 3 && eqb b (suc k))) && ltb a n && not (eqb a p) && ltb 0 b && leb b e))
-        ≡ recordOk n e p k kind a b
-    one (passes x) y z u = rw (eqb-true kind 1 x) (or-none (leb a (n * e) && eqb b 0))
-    one (fails x) (passes y) z u = rw (eqb-true kind 2 y) (or-none (leb a (n * e) && eqb b 0))
-    one (fails x) (fails y) (passes z) u = rw (eqb-true kind 3 z) (moved (eqb b (suc k)) (ltb a n) (not (eqb a p)) (ltb 0 b) (leb b e))
-    one (fails x) (fails y) (fails z) (passes u) = rw (eqb-true kind 4 u)
-    one (fails x) (fails y) (fails z) (fails u) = rw (x, y, z, u)
-
 -- ---- unused words
 
--- one more byte, and one more section
-pub zeros-next : (t : List ℕ) (i m : ℕ) {j : ℕ} {f : Bool} → f ≡ zeroBytes t i m → j ≡ i + m → (f && eqb (getD t j 0) 0) ≡ zeroBytes t i (m + 1)
-zeros-next t i m e j = rw (e, j, add-one m)
+-- a number of two digits is 0 exactly when both are
+digits-zero : (x y m : ℕ) → 1 ≤ m → eqb (x + y * m) 0 ≡ (eqb x 0 && eqb y 0)
+digits-zero x y m l = go (test (eqb x 0)) (test (eqb y 0))
+  where
+    more : y * 1 ≤ y * m
+    more = mul-le-mul-left y l
 
-pub sections-next : (n e : ℕ) (w : ℕ → ℕ) (p : ℕ) {f g : Bool} → f ≡ sectionsOk n e w p → g ≡ sectionOk n e w p → (f && g) ≡ sectionsOk n e w (p + 1)
-sections-next n e w p f g = rw (f, g, add-one p)
+    go : Test (eqb x 0) → Test (eqb y 0) → eqb (x + y * m) 0 ≡ (eqb x 0 && eqb y 0)
+    go (passes a) (passes b) = rw (a, b, eqb-true x 0 a, eqb-true y 0 b, zero-mul m)
+    go (passes a) (fails b) = let n = eqb-false y 0 b in rw (a, b, ne-eqb (x + y * m) 0 (omega (arith, more)))
+    go (fails a) b = let n = eqb-false x 0 a in rw (a, ne-eqb (x + y * m) 0 (omega arith))
+
+pub eight-zero : (t : List ℕ) (i : ℕ) {r : ℕ}
+    → r ≡ getD t i 0 + getD t (i + 1) 0 * 256 + getD t (i + 2) 0 * 65536 + getD t (i + 3) 0 * 16777216 + getD t (i + 4) 0 * 4294967296
+    + getD t (i + 5) 0 * 1099511627776 + getD t (i + 6) 0 * 281474976710656 + getD t (i + 7) 0 * 72057594037927936
+    → eqb r 0 ≡ zeroBytes t i 8
+eight-zero t i e =
+    rw (e, add-zero i)
+    (digits (getD t i 0) (getD t (i + 1) 0) (getD t (i + 2) 0) (getD t (i + 3) 0) (getD t (i + 4) 0) (getD t (i + 5) 0) (getD t (i + 6) 0) (getD t (i + 7) 0))
+  where
+    digits : (a b c d e f g h : ℕ)
+        → eqb (a + b * 256 + c * 65536 + d * 16777216 + e * 4294967296 + f * 1099511627776 + g * 281474976710656 + h * 72057594037927936) 0
+        ≡ (eqb a 0 && eqb b 0 && eqb c 0 && eqb d 0 && eqb e 0 && eqb f 0 && eqb g 0 && eqb h 0)
+    digits a b c d e f g h =
+        let s = a + b * 256 in
+        let u = s + c * 65536 in
+        let v = u + d * 16777216 in
+        let w = v + e * 4294967296 in
+        let x = w + f * 1099511627776 in
+        let y = x + g * 281474976710656 in
+        rw (
+          digits-zero y h 72057594037927936 (omega arith),
+          digits-zero x g 281474976710656 (omega arith),
+          digits-zero w f 1099511627776 (omega arith),
+          digits-zero v e 4294967296 (omega arith),
+          digits-zero u d 16777216 (omega arith),
+          digits-zero s c 65536 (omega arith),
+          digits-zero a b 256 (omega arith),
+        )
+
+-- bytes in two parts
+zeros-parts : (t : List ℕ) (i m k : ℕ) → zeroBytes t i (m + k) ≡ (zeroBytes t i m && zeroBytes t (i + m) k)
+zeros-parts t i m zero = rw (add-zero m) (sym (and-true (zeroBytes t i m)))
+zeros-parts t i m (suc k) =
+    let a : m + suc k ≡ suc (m + k) = omega arith in
+    let b : i + (m + k) ≡ i + m + k = omega arith in
+    rw (a, b, zeros-parts t i m k) (and-assoc (zeroBytes t i m) (zeroBytes t (i + m) k) (eqb (getD t (i + m + k) 0) 0))
+
+-- eight bytes more
+pub zeros-next : (t : List ℕ) (i j m x y : ℕ) → eqb x 0 ≡ (zeroBytes t j 8 && zeroBytes t i (8 * m)) → eqb y 0 ≡ zeroBytes t (i + 8 * m) 8
+    → eqb (bitOr x y) 0 ≡ (zeroBytes t j 8 && zeroBytes t i (8 * (m + 1)))
+zeros-next t i j m x y e f =
+    let a : 8 * (m + 1) ≡ 8 * m + 8 = omega arith in
+    or-zero x y
+    ∙ rw (e, f, a, zeros-parts t i (8 * m) 8) (and-assoc (zeroBytes t j 8) (zeroBytes t i (8 * m)) (zeroBytes t (i + 8 * m) 8))
+
+-- the last eight bytes and as many eights as there are from the first on are all bytes
+pub zeros-all : (t : List ℕ) (i j m : ℕ) → i + 8 ≤ j → m ≡ (j - i) / 8 → (zeroBytes t (j - 8) 8 && zeroBytes t i (8 * m)) ≡ zeroBytes t i (j - i)
+zeros-all t i j m l e =
+    let r = j - i - 8 * m in
+    let a : j - i ≡ 8 * m + r = omega arith in
+    let b : 8 ≡ 8 - r + r = omega arith in
+    let c : j - 8 + (8 - r) ≡ i + 8 * m = omega arith in
+    let d : 8 * m ≡ 8 * m - (8 - r) + (8 - r) = omega arith in
+    let f : i + (8 * m - (8 - r)) ≡ j - 8 = omega arith in
+    let tail : zeroBytes t (j - 8) 8 ≡ (zeroBytes t (j - 8) (8 - r) && zeroBytes t (i + 8 * m) r) =
+    ap (zeroBytes t (j - 8)) b ∙ zeros-parts t (j - 8) (8 - r) r ∙ ap (λ (k : ℕ). zeroBytes t (j - 8) (8 - r) && zeroBytes t k r) c
+    in
+    let head : zeroBytes t i (8 * m) ≡ (zeroBytes t i (8 * m - (8 - r)) && zeroBytes t (j - 8) (8 - r)) =
+    ap (zeroBytes t i) d
+    ∙ zeros-parts t i (8 * m - (8 - r)) (8 - r)
+    ∙ ap (λ (k : ℕ). zeroBytes t i (8 * m - (8 - r)) && zeroBytes t k (8 - r)) f
+    in
+    ap (λ (z : Bool). z && zeroBytes t i (8 * m)) tail
+    ∙ ap (λ (z : Bool). (zeroBytes t (j - 8) (8 - r) && zeroBytes t (i + 8 * m) r) && z) head
+    ∙ overlap (zeroBytes t i (8 * m - (8 - r))) (zeroBytes t (j - 8) (8 - r)) (zeroBytes t (i + 8 * m) r)
+    ∙ ap (λ (z : Bool). z && zeroBytes t (i + 8 * m) r) (sym head)
+    ∙ sym (zeros-parts t i (8 * m) r)
+    ∙ ap (zeroBytes t i) (sym a)
+  where
+    overlap : (p q r : Bool) → ((q && r) && (p && q)) ≡ ((p && q) && r)
+    overlap true true r = and-true r
+    overlap true false r = refl
+    overlap false true r = and-false r
+    overlap false false r = refl
 
 -- four bytes are 0 exactly when their word is
 word-zero : (z : Bool) (a b c d : ℕ)
@@ -85,23 +145,110 @@ zero-words t i (suc m) =
     rw (four, d, c, b, a, zero-words t i m)
     (word-zero (zerosAt (word t) i m) (getD t (4 * (i + m)) 0) (getD t (4 * (i + m) + 1) 0) (getD t (4 * (i + m) + 2) 0) (getD t (4 * (i + m) + 3) 0))
 
--- the unused records of a section, c of whose e records are used
-pub unused-zero : (t : List ℕ) (at c e : ℕ) → c ≤ e → {z : Bool} → z ≡ zeroBytes t (4 * (at + 3 + 3 * c)) (4 * (at + 3 + 3 * e) - 4 * (at + 3 + 3 * c))
-    → z ≡ zerosAt (word t) (at + 3 + 3 * c) (3 * (e - c))
+-- the unused records, from the c-th of e on
+pub unused-zero : (t : List ℕ) (at c e : ℕ) → c ≤ e → {z : Bool} → z ≡ zeroBytes t (4 * (at + 3 * c)) (4 * (at + 3 * e) - 4 * (at + 3 * c))
+    → z ≡ zerosAt (word t) (at + 3 * c) (3 * (e - c))
 unused-zero t at c e l h =
-    let n : 4 * (at + 3 + 3 * e) - 4 * (at + 3 + 3 * c) ≡ 4 * (3 * (e - c)) = omega arith in
-    h ∙ rw n (zero-words t (at + 3 + 3 * c) (3 * (e - c)))
+    let n : 4 * (at + 3 * e) - 4 * (at + 3 * c) ≡ 4 * (3 * (e - c)) = omega arith in
+    h ∙ rw n (zero-words t (at + 3 * c) (3 * (e - c)))
 
--- ---- a section, from what was read of it
+pub unused-none : (w : ℕ → ℕ) (at c e : ℕ) → c ≡ e → true ≡ zerosAt w at (3 * (e - c))
+unused-none w at c e h = let n : e - c ≡ 0 = omega arith in rw n
 
-module _ (n e p : ℕ) (w : ℕ → ℕ) {at c : ℕ} (s : at ≡ start e p) (h : c ≡ w at) where
-  pub section-over : e < c → false ≡ sectionOk n e w p
-  section-over l = rw (← s, ← h, lt-leb c e l)
+-- ---- the two parts of a section, from what was read of it
 
-  pub section-fold : c ≤ e → {ok z : Bool} {x k a b : ℕ} → ok ≡ recordsOk n e w p (at + 3) c → x ≡ number (recordsAt w (at + 3) c)
-      → k ≡ sends (recordsAt w (at + 3) c) → a ≡ w (at + 1) → b ≡ w (at + 2) → z ≡ zerosAt w (at + 3 + 3 * c) (3 * (e - c))
-      → (ok && eqb a x && eqb b k && z) ≡ sectionOk n e w p
-  section-fold l f g i j o q = rw (← s, ← h, le-leb c e l, f, g, i, j, o, q)
+halves-same : (x y u v : ℕ) → y < 4294967296 → v < 4294967296 → eqb (x * 4294967296 + y) (u * 4294967296 + v) ≡ (eqb x u && eqb y v)
+halves-same x y u v yl vl = go (test (eqb x u)) (test (eqb y v))
+  where
+    go : Test (eqb x u) → Test (eqb y v) → eqb (x * 4294967296 + y) (u * 4294967296 + v) ≡ (eqb x u && eqb y v)
+    go (passes a) (passes b) =
+        let p = eqb-true x u a in
+        let q = eqb-true y v b in
+        rw (a, b, eq-eqb (x * 4294967296 + y) (u * 4294967296 + v) (omega arith))
+    go (passes a) (fails b) = let q = eqb-false y v b in rw (a, b, ne-eqb (x * 4294967296 + y) (u * 4294967296 + v) (omega arith))
+    go (fails a) b = let q = eqb-false x u a in rw (a, ne-eqb (x * 4294967296 + y) (u * 4294967296 + v) (omega arith))
+
+module _ (e : ℕ) (w : ℕ → ℕ) {at c : ℕ} (h : c ≡ w at) where
+  pub rear-over : e < c → false ≡ rearOk e w at
+  rear-over l = rw (← h, lt-leb c e l)
+
+  pub rear-within : c ≤ e → {z : Bool} → z ≡ zerosAt w (at + 3 + 3 * c) (3 * (e - c)) → z ≡ rearOk e w at
+  rear-within l hz = rw (hz, ← h, le-leb c e l)
+
+  -- marks, and the header's number and count of sends beside those that were found
+  pub front-fold : (n p m : ℕ) {last k pair : ℕ} → m < 18446744073709551616 → clear m ≡ recordsOk n e w p (at + 3) c
+      → (recordsOk n e w p (at + 3) c ≡ true → (last ≡ number (recordsAt w (at + 3) c) * 4294967296) × (k ≡ sends (recordsAt w (at + 3) c)))
+      → k < 4294967296 → w (at + 2) < 4294967296 → pair ≡ w (at + 1) * 4294967296 + w (at + 2)
+      → eqb (bitOr (bitAnd m 9223372039002259456) (bitXor pair (bitOr last k))) 0 ≡ frontOk n e w p at
+  front-fold n p m {last} {k} {pair} ml f g kl yl hp =
+      or-zero (bitAnd m 9223372039002259456) (bitXor pair (bitOr last k))
+      ∙ rw (marks-zero m ml, xor-zero pair (bitOr last k), f, ← h) (go (test (recordsOk n e w p (at + 3) c)))
+    where
+      go : Test (recordsOk n e w p (at + 3) c)
+          → (recordsOk n e w p (at + 3) c && eqb pair (bitOr last k))
+          ≡ (recordsOk n e w p (at + 3) c && eqb (w (at + 1)) (number (recordsAt w (at + 3) c)) && eqb (w (at + 2)) (sends (recordsAt w (at + 3) c)))
+      go (fails o) = rw o
+      go (passes o) =
+          let small : sends (recordsAt w (at + 3) c) < 4294967296 = rw (g o .1) at kl in
+          rw (o, hp, g o .0, g o .1, or-shifted (number (recordsAt w (at + 3) c)) 32 (sends (recordsAt w (at + 3) c)) small)
+          (halves-same (w (at + 1)) (w (at + 2)) (number (recordsAt w (at + 3) c)) (sends (recordsAt w (at + 3) c)) yl small)
+
+-- ---- all sections
+
+pub start-most : (e p n : ℕ) → p < n → start e (p + 1) ≤ start e n
+start-most e p n l = let m = mul-le-mul-right {m = p + 1} {n = n} (3 * (e + 1)) (omega arith) in omega arith
+
+module _ (f : ℕ → Bool) where
+  pub every-at : (m p : ℕ) → p < m → every f m ≡ true → f p ≡ true
+  every-at (suc m) p lt e = go (decLt p m) (λ l. every-at m p l (both .0))
+    where
+      both : (every f m ≡ true) × (f m ≡ true)
+      both = and-eq-true-iff (every f m) (f m) .0 e
+
+      go : Dec (p < m) → (p < m → f p ≡ true) → f p ≡ true
+      go (yes l) g = g l
+      go (no l) g = ap f (let i : p ≡ m = omega arith in i) ∙ both .1
+
+  pub every-next : (p : ℕ) {x : ℕ} → every f p ≡ true → eqb x 0 ≡ f p → x ≡ 0 → every f (p + 1) ≡ true
+  every-next p {x} e g z = rw (add-one p, e) (sym g ∙ eq-eqb x 0 z)
+
+  pub every-not : (m p : ℕ) → p < m → {x : ℕ} → eqb x 0 ≡ f p → x ≢ 0 → false ≡ every f m
+  every-not m p lt {x} g ne = go (test (every f m))
+    where
+      go : Test (every f m) → false ≡ every f m
+      go (fails h) = sym h
+      go (passes h) = absurd (false≢true (sym (ne-eqb x 0 ne) ∙ g ∙ every-at m p lt h))
+
+pub rears-count : (e : ℕ) (w : ℕ → ℕ) (n p : ℕ) → p < n → every (λ q. rearOk e w (start e q)) n ≡ true → w (start e p) ≤ e
+rears-count e w n p lt h =
+    let at = start e p in
+    let ok = every-at (λ q. rearOk e w (start e q)) n p lt h in
+    leb-true (w at) e (and-eq-true-iff (leb (w at) e) (zerosAt w (at + 3 + 3 * w at) (3 * (e - w at))) .0 ok .0)
+
+sections-parts : (n e : ℕ) (w : ℕ → ℕ) (m : ℕ)
+    → sectionsOk n e w m ≡ (every (λ p. rearOk e w (start e p)) m && every (λ p. frontOk n e w p (start e p)) m)
+sections-parts n e w zero = refl
+sections-parts n e w (suc m) =
+    let at = start e m in
+    let rears = every (λ p. rearOk e w (start e p)) m in
+    let fronts = every (λ p. frontOk n e w p (start e p)) m in
+    ap (λ (b : Bool). b && sectionOk n e w m) (sections-parts n e w m)
+    ∙ ap (λ (b : Bool). (rears && fronts) && b)
+    (parts (leb (w at) e) (recordsOk n e w m (at + 3) (w at)) (eqb (w (at + 1)) (number (recordsAt w (at + 3) (w at))))
+    (eqb (w (at + 2)) (sends (recordsAt w (at + 3) (w at)))) (zerosAt w (at + 3 + 3 * w at) (3 * (e - w at))))
+    ∙ interchange rears fronts (rearOk e w at) (frontOk n e w m at)
+  where
+    parts : (l r x y z : Bool) → (l && r && x && y && z) ≡ ((l && z) && (r && x && y))
+    parts false r x y z = refl
+    parts true r x y z = and-comm (r && x && y) z
+
+module _ (n e : ℕ) (w : ℕ → ℕ) where
+  pub sections-rears : every (λ p. rearOk e w (start e p)) n ≡ false → false ≡ sectionsOk n e w n
+  sections-rears h = sym (sections-parts n e w n ∙ rw h)
+
+  pub sections-fronts : every (λ p. rearOk e w (start e p)) n ≡ true → {x : Bool} → x ≡ every (λ p. frontOk n e w p (start e p)) n
+      → x ≡ sectionsOk n e w n
+  sections-fronts h g = g ∙ sym (sections-parts n e w n ∙ rw h)
 
 -- ---- the rows of a table, from what was read of it
 

@@ -1,1 +1,3 @@
 pub mod Zeros
+pub mod Marks
+pub mod Sections

@@ -1,14 +1,17 @@
 // The lent table: where its sections start, whether it is well laid, and its rows (document 01, "The table" and rows 1 to 3).
 ghost use mathlib.Core.Path.{_≡_};
-ghost use mathlib.Core.Bool.{cond, _&&_, _||_};
-ghost use Prim.Native.Nat.{_+_, _-_, _*_, _≤_, _<_};
-ghost use lib.Dec.{eqb};
-ghost use lib.ListN.{length, replicate};
+ghost use mathlib.Core.Bool.{true, cond, _&&_};
+ghost use Prim.Native.Nat.{_+_, _-_, _*_, _/_, _≤_, _<_};
+ghost use lib.Dec.{eqb, ltb};
+ghost use lib.Bits.{bitOr};
+ghost use lib.ListN.{length, getD, replicate};
 ghost use mathlib.Core.List.{[]};
 ghost use Rattle.xdr.specs.Words.{word};
 ghost use Rattle.rules.specs.Records.{number, sends};
-ghost use Rattle.rules.specs.Table.{inRange, size, start as startOf, recordsAt, recordOk, recordsOk, sectionOk, sectionsOk};
+ghost use Rattle.rules.specs.Table.{inRange, size, start as startOf, recordsAt, recordsOk, zerosAt, sectionsOk};
+ghost use Rattle.layout.specs.Marks.{clear as clearOf, place as placeOf, rooms as roomsOf, floors as floorsOf, counts as countsOf, masks as masksOf, above, below};
 ghost use Rattle.layout.specs.Zeros.{zeroBytes};
+ghost use Rattle.layout.specs.Sections.{every, rearOk, frontOk};
 ghost use Rattle.rules.specs.Calls.{outcome, first, tableRows, freshOn};
 
 // The word at which section p starts.
@@ -26,53 +29,66 @@ pub fn pick(t: bool, x: usize, y: usize) -> usize
     if t { x } else { y }
 }
 
-// What a scan of used records has found so far: whether all are in order, the number and the count of sends.
+// What a scan of used records has found so far: marks, which are clear as long as every record is in order; words a and b of the last
+// checkpoint as a pair; and the count of sends.
 struct Seen {
-    ok: bool,
-    number: usize,
+    marks: usize,
+    last: usize,
     sends: usize,
 }
 
-// Whether a record with these words may follow k sends in process p's section, where numbers are at most `most`.
-fn record_ok(
-    n: usize,
-    e: usize,
-    most: usize,
-    p: usize,
-    k: usize,
-    kind: usize,
-    a: usize,
-    b: usize,
-) -> bool
-    requires { ⌜ (most ≡ n * e) × (k ≤ 1024) ⌝ }
-    ensures { λ r. ⌜ r ≡ recordOk n e p k kind a b ⌝ }
+// Where the lists by kind have this kind.
+fn place(kind: usize) -> usize
+    ensures { λ r. ⌜ (r ≡ placeOf kind) × (r < 5) ⌝ }
 {
-    ((kind == 1) | (kind == 2)) & (a <= most) & (b == 0)
-        | ((kind == 4) | (kind == 3) & (b == k + 1)) & (a < n) & (a != p) & (0 < b) & (b <= e)
+    pick(kind < 5, kind, 0)
 }
 
-// One record more.
-fn next(s: Seen, n: usize, e: usize, most: usize, p: usize, kind: usize, a: usize, b: usize) -> Seen
-    requires { ⌜ (most ≡ n * e) × (s .sends ≤ 1024) ⌝ }
-    ensures { λ r. ⌜ (r .ok ≡ (s .ok && recordOk n e p (s .sends) kind a b)) × (r .number ≡ cond (eqb kind 4 || eqb kind 3) (s .number) a) × (r .sends ≡ cond (eqb kind 3) (s .sends + 1) (s .sends)) ⌝ }
+// One record more, with words a and b as a pair, by the lists in layout/specs/Marks.antt. Both words are tested at once, and no kind has
+// a branch of its own.
+fn next(
+    s: Seen,
+    room: &[usize],
+    floor: &[usize],
+    masks: &[usize],
+    own: usize,
+    kind: usize,
+    pair: usize,
+) -> Seen
+    requires { ⌜ (length (now room) ≡ 5) × (length (now floor) ≡ 5) × (now masks ≡ masksOf) × (s .sends ≤ 1024) ⌝ }
+    ensures { λ r. ⌜ (r .marks ≡ bitOr (bitOr (s .marks) (above pair ((s .sends + getD countsOf (placeOf kind) 0) * getD countsOf (placeOf kind) 0) (getD (now (room .entry)) (placeOf kind) 0))) (below pair own (getD (now (floor .entry)) (placeOf kind) 0))) × (r .last ≡ cond (ltb (placeOf kind) 3) pair (s .last)) × (r .sends ≡ s .sends + getD countsOf (placeOf kind) 0) ⌝ }
 {
-    let k = s.sends;
+    let i = place(kind);
+    let m = masks[i];
+    let k = std::num::wrapping_sub_usize(s.sends, m);
+    let sum = std::num::wrapping_add_usize(pair ^ (k & m), room[i]);
+    let difference = std::num::wrapping_sub_usize(floor[i], pair ^ own);
     Seen {
-        ok: s.ok & record_ok(n, e, most, p, k, kind, a, b),
-        number: pick((kind == 4) | (kind == 3), s.number, a),
-        sends: pick(kind == 3, k + 1, k),
+        marks: s.marks | sum | difference,
+        last: pick(i < 3, pair, s.last),
+        sends: k,
     }
 }
 
-// The first c records of process p, from word `at` on.
-fn used(t: &[u8], n: usize, e: usize, p: usize, at: usize, c: usize) -> Seen
-    requires { ⌜ (n ≤ 16) × (e ≤ 1024) × (c ≤ e) × (4 * (at + 3 * c) ≤ length (now t)) ⌝ }
-    ensures { λ r. ⌜ (r .ok ≡ recordsOk n e (word (now (t .entry))) p at c) × (r .number ≡ number (recordsAt (word (now (t .entry))) at c)) × (r .sends ≡ sends (recordsAt (word (now (t .entry))) at c)) ⌝ }
+// The first c records of process p, from word `at` on, in a table of n processes with room for e records each.
+fn used(
+    t: &[u8],
+    n: usize,
+    e: usize,
+    p: usize,
+    room: &[usize],
+    floor: &[usize],
+    masks: &[usize],
+    at: usize,
+    c: usize,
+) -> Seen
+    requires { ⌜ (n ≤ 16) × (e ≤ 1024) × (p < n) × (c ≤ e) × (now room ≡ roomsOf n e) × (now floor ≡ floorsOf) × (now masks ≡ masksOf) × (4 * (at + 3 * c) ≤ length (now t)) ⌝ }
+    ensures { λ r. ⌜ (clearOf (r .marks) ≡ recordsOk n e (word (now (t .entry))) p at c) × (recordsOk n e (word (now (t .entry))) p at c ≡ true → (r .last ≡ number (recordsAt (word (now (t .entry))) at c) * 4294967296) × (r .sends ≡ sends (recordsAt (word (now (t .entry))) at c))) × (r .sends ≤ c) ⌝ }
 {
-    let most = n * e;
+    let own = p * 4294967296;
     let mut s = Seen {
-        ok: true,
-        number: 0,
+        marks: 0,
+        last: 0,
         sends: 0,
     };
     let mut i: usize = 0;
@@ -80,48 +96,142 @@ fn used(t: &[u8], n: usize, e: usize, p: usize, at: usize, c: usize) -> Seen
         let w = at + 3 * i;
         s = next(
             s,
-            n,
-            e,
-            most,
-            p,
+            room,
+            floor,
+            masks,
+            own,
             xdr::size(t, w),
-            xdr::size(t, w + 1),
-            xdr::size(t, w + 2),
+            xdr::pair(t, w + 1),
         );
         i += 1;
     }
     s
 }
 
-// Whether the bytes from byte `from` up to byte `end` are 0.
-fn zeros(t: &[u8], from: usize, end: usize) -> bool
-    requires { ⌜ (from ≤ end) × (end ≤ length (now t)) ⌝ }
-    ensures { λ r. ⌜ r ≡ zeroBytes (now (t .entry)) from (end - from) ⌝ }
+// Eight bytes as one number, the first the least.
+fn join(a: u8, b: u8, c: u8, d: u8, e: u8, f: u8, g: u8, h: u8) -> usize
+    ensures { λ r. ⌜ r ≡ a + b * 256 + c * 65536 + d * 16777216 + e * 4294967296 + f * 1099511627776 + g * 281474976710656 + h * 72057594037927936 ⌝ }
 {
-    let mut ok = true;
-    let mut i: usize = from;
-    while i < end {
-        ok = ok & (t[i] == 0);
-        i += 1;
-    }
-    ok
+    (a as usize)
+        + (b as usize) * 256
+        + (c as usize) * 65536
+        + (d as usize) * 16777216
+        + (e as usize) * 4294967296
+        + (f as usize) * 1099511627776
+        + (g as usize) * 281474976710656
+        + (h as usize) * 72057594037927936
 }
 
-// Whether section p is well laid.
-fn section_ok(t: &[u8], n: usize, e: usize, p: usize) -> bool
-    requires { ⌜ (n ≤ 16) × (e ≤ 1024) × (p < 16) × (4 * startOf e (p + 1) ≤ length (now t)) ⌝ }
-    ensures { λ r. ⌜ r ≡ sectionOk n e (word (now (t .entry))) p ⌝ }
+// The eight bytes from byte i on, in an order that takes no turning: only whether all are 0 matters.
+fn eight(t: &[u8], i: usize) -> usize
+    requires { ⌜ i + 8 ≤ length (now t) ⌝ }
+    ensures { λ r. ⌜ eqb r 0 ≡ zeroBytes (now (t .entry)) i 8 ⌝ }
 {
-    let at = start(e, p);
+    join(
+        t[i],
+        t[i + 1],
+        t[i + 2],
+        t[i + 3],
+        t[i + 4],
+        t[i + 5],
+        t[i + 6],
+        t[i + 7],
+    )
+}
+
+// The bytes from byte `from` up to byte `end`, which are m eights or a few more, as one number, which is 0 exactly when all of them are.
+// The last eight are taken apart, since the rest goes by eights.
+fn bytes(t: &[u8], from: usize, m: usize, end: usize) -> usize
+    requires { ⌜ (from + 8 ≤ end) × (end ≤ length (now t)) × (m ≡ (end - from) / 8) ⌝ }
+    ensures { λ r. ⌜ eqb r 0 ≡ zeroBytes (now (t .entry)) from (end - from) ⌝ }
+{
+    let mut x = eight(t, end - 8);
+    let mut i: usize = 0;
+    while i < m {
+        x = x | eight(t, from + 8 * i);
+        i += 1;
+    }
+    x
+}
+
+// 0 exactly when the records from the c-th to the e-th, which start at word `at`, are unused.
+fn unused(t: &[u8], at: usize, c: usize, e: usize) -> usize
+    requires { ⌜ (c ≤ e) × (e ≤ 1024) × (4 * (at + 3 * e) ≤ length (now t)) ⌝ }
+    ensures { λ r. ⌜ eqb r 0 ≡ zerosAt (word (now (t .entry))) (at + 3 * c) (3 * (e - c)) ⌝ }
+{
+    let m = 3 * (e - c) / 2;
+    if m == 0 {
+        return 0;
+    }
+    bytes(t, 4 * (at + 3 * c), m, 4 * (at + 3 * e))
+}
+
+// The sections are gone through twice, each time for a part of its own: a loop that looks at both has more at hand than there are
+// registers.
+
+// 0 exactly when the section that starts at word `at` has at most e used records, and zeros behind them.
+fn rear(t: &[u8], e: usize, at: usize) -> usize
+    requires { ⌜ (e ≤ 1024) × (4 * (at + 3 * (e + 1)) ≤ length (now t)) ⌝ }
+    ensures { λ r. ⌜ eqb r 0 ≡ rearOk e (word (now (t .entry))) at ⌝ }
+{
     let c = xdr::size(t, at);
     if e < c {
-        return false;
+        return 1;
     }
-    let s = used(t, n, e, p, at + 3, c);
-    s.ok
-        & (xdr::size(t, at + 1) == s.number)
-        & (xdr::size(t, at + 2) == s.sends)
-        & zeros(t, 4 * (at + 3 + 3 * c), 4 * (at + 3 + 3 * e))
+    unused(t, at + 3, c, e)
+}
+
+// Whether that holds of all n sections.
+fn rears(t: &[u8], n: usize, e: usize) -> bool
+    requires { ⌜ (n ≤ 16) × (e ≤ 1024) × (4 * startOf e n ≤ length (now t)) ⌝ }
+    ensures { λ r. ⌜ r ≡ every (λ p. rearOk e (word (now (t .entry))) (startOf e p)) n ⌝ }
+{
+    let mut at: usize = 2;
+    let mut p: usize = 0;
+    while p < n {
+        if rear(t, e, at) != 0 {
+            return false;
+        }
+        at += 3 * (e + 1);
+        p += 1;
+    }
+    true
+}
+
+// 0 exactly when the used records of section p, which starts at word `at`, are in order and its number and count of sends are theirs.
+fn front(
+    t: &[u8],
+    n: usize,
+    e: usize,
+    p: usize,
+    at: usize,
+    room: &[usize],
+    floor: &[usize],
+    masks: &[usize],
+) -> usize
+    requires { ⌜ (n ≤ 16) × (e ≤ 1024) × (p < n) × (now room ≡ roomsOf n e) × (now floor ≡ floorsOf) × (now masks ≡ masksOf) × (4 * (at + 3 * (e + 1)) ≤ length (now t)) × (word (now t) at ≤ e) ⌝ }
+    ensures { λ r. ⌜ eqb r 0 ≡ frontOk n e (word (now (t .entry))) p at ⌝ }
+{
+    let c = xdr::size(t, at);
+    let s = used(t, n, e, p, room, floor, masks, at + 3, c);
+    (s.marks & 9223372039002259456) | (xdr::pair(t, at + 1) ^ (s.last | s.sends))
+}
+
+// Whether that holds of all n sections.
+fn fronts(t: &[u8], n: usize, e: usize, room: &[usize], floor: &[usize], masks: &[usize]) -> bool
+    requires { ⌜ (n ≤ 16) × (e ≤ 1024) × (now room ≡ roomsOf n e) × (now floor ≡ floorsOf) × (now masks ≡ masksOf) × (4 * startOf e n ≤ length (now t)) × (every (λ p. rearOk e (word (now t)) (startOf e p)) n ≡ true) ⌝ }
+    ensures { λ r. ⌜ r ≡ every (λ p. frontOk n e (word (now (t .entry))) p (startOf e p)) n ⌝ }
+{
+    let mut at: usize = 2;
+    let mut p: usize = 0;
+    while p < n {
+        if front(t, n, e, p, at, room, floor, masks) != 0 {
+            return false;
+        }
+        at += 3 * (e + 1);
+        p += 1;
+    }
+    true
 }
 
 // Whether all n sections are well laid.
@@ -129,13 +239,27 @@ fn sections_ok(t: &[u8], n: usize, e: usize) -> bool
     requires { ⌜ (n ≤ 16) × (e ≤ 1024) × (4 * startOf e n ≤ length (now t)) ⌝ }
     ensures { λ r. ⌜ r ≡ sectionsOk n e (word (now (t .entry))) n ⌝ }
 {
-    let mut ok = true;
-    let mut p: usize = 0;
-    while p < n {
-        ok = ok & section_ok(t, n, e, p);
-        p += 1;
+    let checkpoint = (2147483647 - n * e) * 4294967296 + 2147483647;
+    let message = (2147483648 - n) * 4294967296 + 2147483647;
+    let room = [
+        9223372036854775808,
+        checkpoint,
+        checkpoint,
+        message,
+        message - e,
+    ];
+    let floor = [
+        9223372034707292159,
+        9223372034707292159,
+        9223372034707292159,
+        9223372039002259455,
+        9223372039002259456,
+    ];
+    let masks = [0, 0, 0, 18446744073709551615, 0];
+    if !rears(t, n, e) {
+        return false;
     }
-    ok
+    fronts(t, n, e, &room, &floor, &masks)
 }
 
 // Whether n and e are in their ranges.
@@ -175,7 +299,7 @@ pub fn table_row(t: &[u8]) -> u32
 }
 
 // Makes every byte of t 0.
-fn clear(t: &mut [u8])
+fn erase(t: &mut [u8])
     ensures { λ _. ⌜ now (t .exit) ≡ replicate (length (now (t .entry))) 0 ⌝ }
 {
     let mut i = 0;
@@ -195,7 +319,7 @@ pub fn fresh(t: &mut [u8], n: u32, e: u32) -> u32
     if t.len() != table_size(n as usize, e as usize) {
         return 2;
     }
-    clear(t);
+    erase(t);
     xdr::put(t, 0, n);
     xdr::put(t, 1, e);
     0

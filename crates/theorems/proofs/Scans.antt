@@ -7,7 +7,7 @@ use native.Mathlib.Numerals.{add-one}
 use lib.Dec.{eqb, leb}
 use borrow.Author.Tests.{eqb-true}
 use Rattle.rules.specs.Records.{Event, basic, forced, sent, received, History, number, sends, carried, destination, hasReceipt}
-use Rattle.rules.specs.Table.{eventOf, recordsAt, recordOk, recordsOk}
+use Rattle.rules.specs.Table.{eventOf, recordsAt}
 use Rattle.rules.specs.Lines.{atLeast}
 use Rattle.theorems.proofs.Histories.{Test, passes, fails, test}
 use Rattle.theorems.proofs.Laid.{sends-length}
@@ -111,10 +111,6 @@ module _ (w : ℕ → ℕ) (at i : ℕ) where
       pub receipt-next : (q k : ℕ) {b : ℕ} → b ≡ third → {f : Bool} → f ≡ hasReceipt past q k
           → (f || (eqb kind 4 && eqb a q && eqb b k)) ≡ hasReceipt (recordsAt w at (i + 1)) q k
       receipt-next q k z e = rw (e, x, y, z, add-one i) (sym (receipt-event past (w (at + 3 * i)) (w (at + 3 * i + 1)) third q k))
-
-      pub laid-next : (n E p : ℕ) {b : ℕ} → b ≡ third → {s : ℕ} {f r : Bool} → f ≡ recordsOk n E w p at i → s ≡ sends past
-          → r ≡ (f && recordOk n E p s kind a b) → r ≡ recordsOk n E w p at (i + 1)
-      laid-next n E p z e g r = r ∙ rw (e, g, x, y, z, add-one i)
 
     pub carried-next : (k : ℕ) {m s c r : ℕ} → m ≡ number past → s ≡ sends past → c ≡ carried past k
         → r ≡ cond (eqb kind 3 && eqb k (s + 1)) m c → r ≡ carried (recordsAt w at (i + 1)) k

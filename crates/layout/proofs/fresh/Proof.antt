@@ -34,8 +34,8 @@ returns-2 c =
     (sym (c3 .in-range .ensures) ∙ not-false (c3 .in-range .result) (c .before .before .if1 .left))
     (λ z. c .if2 .taken (z ∙ sym (c .before .table-size .ensures)))
 
-clear-requires : tie.Need-clear-requires
-clear-requires c κs = search needs
+erase-requires : tie.Need-erase-requires
+erase-requires c κs = search needs
 
 put-requires : tie.Need-put-requires
 put-requires c κs = search needs
@@ -57,8 +57,8 @@ returns-3 c =
     let c17 = c15 .before .before in
     let a = c17 .args in
     fresh-done (a .t .now) (a .n) (a .e) (sym (c15 .in-range .ensures) ∙ not-false (c15 .in-range .result) (c14 .if1 .left))
-    (c12 .if2 .left ∙ c13 .table-size .ensures) (c10 .clear .ensures)
-    (two-puts (c10 .clear .last .0) (a .n) (a .e) (c6 .put .ensures) (c .before .before .put2 .ensures))
+    (c12 .if2 .left ∙ c13 .table-size .ensures) (c10 .erase .ensures)
+    (two-puts (c10 .erase .last .0) (a .n) (a .e) (c6 .put .ensures) (c .before .before .put2 .ensures))
 
 pub fresh-spec : {M : Type 1} → statement M
 fresh-spec =
@@ -68,7 +68,7 @@ fresh-spec =
     returns
     table-size-requires
     returns-2
-    clear-requires
+    erase-requires
     put-requires
     put-requires-2
     same-length

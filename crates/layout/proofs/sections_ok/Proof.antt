@@ -1,49 +1,93 @@
-use Prim.Native.Nat.{_+_, _-_, _*_, _≤_}
-use mathlib.Core.Path.{_≡_, refl, ap, _∙_}
-use native.Mathlib.Nat.{mul-le-mul-right}
+use mathlib.Core.Path.{refl, sym, _∙_}
 use native.Mathlib.Omega.{arith}
 use borrow.Author.Needs.{needs}
+use borrow.Author.Tests.{not-true, not-false}
 use Rattle.xdr.specs.Words.{word}
-use Rattle.rules.specs.Table.{sectionsOk}
-use Rattle.layout.proofs.Laws.{sections-next}
+use Rattle.theorems.proofs.Laid.{product}
+use Rattle.layout.proofs.Laws.{sections-rears, sections-fronts}
+use Rattle.layout.proofs.Marks.{rooms-made}
 use Rattle.layout.proofs.sections_ok.Statement.{statement}
 use Rattle.layout.proofs.sections_ok.Tie as tie
 
-abbrev Inv-loop : tie.InvT-loop
-Inv-loop t n e ok₀ p₀ ok p = (ok ≡ sectionsOk n e (word t) p) × (p ≤ n)
+mul-checkpoint : tie.Need-mul-checkpoint
+mul-checkpoint c = search needs
 
-abbrev μ-loop : tie.MeasureT-loop
-μ-loop t n e ok₀ p₀ ok p = n - p
+sub-checkpoint : tie.Need-sub-checkpoint
+sub-checkpoint c = omega (arith, product (c .before .args .n) (c .before .args .e) (omega arith) (omega arith))
 
-loop-holds : tie.Need-loop-holds Inv-loop μ-loop
-loop-holds c = (refl, search needs)
+mul-checkpoint-2 : tie.Need-mul-checkpoint-2
+mul-checkpoint-2 c = search needs
 
-section-ok-requires : tie.Need-section-ok-requires Inv-loop μ-loop
-section-ok-requires c κs =
-    let c3 = c .before .before .before in
-    let a = c3 .args in
-    let m = mul-le-mul-right {m = c .before .loop .p + 1} {n = a .n} (3 * (a .e + 1)) (omega arith) in
-    omega arith
+add-checkpoint : tie.Need-add-checkpoint
+add-checkpoint c = search needs
 
-add-p : tie.Need-add-p Inv-loop μ-loop
-add-p c = search needs
+sub-message : tie.Need-sub-message
+sub-message c = search needs
 
-loop-less : tie.Need-loop-less Inv-loop μ-loop
-loop-less c = search needs
+mul-message : tie.Need-mul-message
+mul-message c = search needs
 
-loop-again : tie.Need-loop-again Inv-loop μ-loop
-loop-again c =
-    let a = c .before .before .before .before .args in
-    let s = c .before .before .loop in
-    (sections-next (a .n) (a .e) (word (a .t .now)) (s .p) (s .inv .0) (c .section-ok .ensures), search needs)
+add-message : tie.Need-add-message
+add-message c = search needs
 
-returns : tie.Need-returns Inv-loop μ-loop
+sub-t10 : tie.Need-sub-t10
+sub-t10 c = search needs
+
+rears-requires : tie.Need-rears-requires
+rears-requires c κs = search needs
+
+returns : tie.Need-returns
 returns c =
     let a = c .before .before .before .args in
-    let h : c .before .loop .p ≡ a .n = omega arith in
-    c .before .loop .inv .0 ∙ ap (λ j. sectionsOk (a .n) (a .e) (word (a .t .now)) j) h
+    let r = c .before .rears in
+    sections-rears (a .n) (a .e) (word (a .t .now)) (sym (r .ensures) ∙ not-true (r .result) (c .if1 .taken))
+
+slice-aggregate-fronts : tie.Need-slice-aggregate-fronts
+slice-aggregate-fronts c = search needs
+
+slice-aggregate-fronts-2 : tie.Need-slice-aggregate-fronts-2
+slice-aggregate-fronts-2 c = search needs
+
+slice-aggregate-fronts-3 : tie.Need-slice-aggregate-fronts-3
+slice-aggregate-fronts-3 c = search needs
+
+fronts-requires : tie.Need-fronts-requires
+fronts-requires c κs =
+    let left = c .before .before .before in
+    let a = left .before .before .before .args in
+    let r = left .before .rears in (
+      omega arith,
+      omega arith,
+      rooms-made (a .n) (a .e) (omega arith) (omega arith),
+      refl,
+      refl,
+      omega arith,
+      sym (r .ensures) ∙ not-false (r .result) (left .if1 .left),
+    )
+
+returns-2 : tie.Need-returns-2
+returns-2 c =
+    let left = c .before .before .before .before in
+    let a = left .before .before .before .args in
+    let r = left .before .rears in
+    sections-fronts (a .n) (a .e) (word (a .t .now)) (sym (r .ensures) ∙ not-false (r .result) (left .if1 .left)) (c .fronts .ensures)
 
 pub sections-ok-spec : {M : Type 1} → statement M
 sections-ok-spec =
     tie.close
-    (tie.spec Inv-loop μ-loop loop-holds section-ok-requires add-p loop-less loop-again returns)
+    (tie.spec
+    mul-checkpoint
+    sub-checkpoint
+    mul-checkpoint-2
+    add-checkpoint
+    sub-message
+    mul-message
+    add-message
+    sub-t10
+    rears-requires
+    returns
+    slice-aggregate-fronts
+    slice-aggregate-fronts-2
+    slice-aggregate-fronts-3
+    fronts-requires
+    returns-2)

@@ -1,28 +1,30 @@
-use Prim.Native.Nat.{_+_, _-_, _≤_}
-use mathlib.Core.Path.{_≡_, refl, ap, _∙_}
+use Prim.Native.Nat.{ℕ, _+_, _-_, _*_, _≤_}
+use mathlib.Core.Path.{_≡_, refl, subst}
+use mathlib.Core.Bool.{true}
 use native.Mathlib.Omega.{arith}
 use borrow.Author.Needs.{needs}
 use Rattle.xdr.specs.Words.{word}
 use Rattle.rules.specs.Records.{number, sends}
 use Rattle.rules.specs.Table.{recordsAt, recordsOk}
-use Rattle.theorems.proofs.Scans.{laid-next, number-next, sends-next, sends-at-most}
-use Rattle.theorems.proofs.Laid.{product}
+use Rattle.layout.specs.Marks.{clear, place}
+use Rattle.layout.proofs.Marks.{counts-most, clear-next, found-next}
 use Rattle.layout.proofs.used.Statement.{statement}
 use Rattle.layout.proofs.used.Tie as tie
 
 abbrev Inv-loop : tie.InvT-loop
-Inv-loop t n e p at c most s₀ i₀ s i =
-    (s .ok ≡ recordsOk n e (word t) p at i) × (s .number ≡ number (recordsAt (word t) at i)) × (s .sends ≡ sends (recordsAt (word t) at i))
-    × (i ≤ c) × (s .sends ≤ i)
+Inv-loop t n e p room floor masks at c own s₀ i₀ s i =
+    (clear (s .marks) ≡ recordsOk n e (word t) p at i)
+    × (recordsOk n e (word t) p at i ≡ true → (s .last ≡ number (recordsAt (word t) at i) * 4294967296) × (s .sends ≡ sends (recordsAt (word t) at i)))
+    × (s .sends ≤ i) × (i ≤ c)
 
 abbrev μ-loop : tie.MeasureT-loop
-μ-loop t n e p at c most s₀ i₀ s i = c - i
+μ-loop t n e p room floor masks at c own s₀ i₀ s i = c - i
 
-mul-most : tie.Need-mul-most Inv-loop μ-loop
-mul-most c = omega (arith, product (c .before .args .n) (c .before .args .e) (omega arith) (omega arith))
+mul-own : tie.Need-mul-own Inv-loop μ-loop
+mul-own c = search needs
 
 loop-holds : tie.Need-loop-holds Inv-loop μ-loop
-loop-holds c = (refl, refl, refl, search needs, search needs)
+loop-holds c = (refl, λ h. (refl, refl), search needs, search needs)
 
 mul-w : tie.Need-mul-w Inv-loop μ-loop
 mul-w c = search needs
@@ -33,20 +35,16 @@ add-w c = search needs
 size-requires : tie.Need-size-requires Inv-loop μ-loop
 size-requires c κs = search needs
 
-add-size : tie.Need-add-size Inv-loop μ-loop
-add-size c = search needs
+add-pair : tie.Need-add-pair Inv-loop μ-loop
+add-pair c = search needs
 
-size-requires-2 : tie.Need-size-requires-2 Inv-loop μ-loop
-size-requires-2 c κs = search needs
-
-add-size-2 : tie.Need-add-size-2 Inv-loop μ-loop
-add-size-2 c = search needs
-
-size-requires-3 : tie.Need-size-requires-3 Inv-loop μ-loop
-size-requires-3 c κs = search needs
+pair-requires : tie.Need-pair-requires Inv-loop μ-loop
+pair-requires c κs = search needs
 
 next-requires : tie.Need-next-requires Inv-loop μ-loop
-next-requires c κs = search needs
+next-requires c κs =
+    let s = c .before .before .before .before .before .before .before .before in
+    (rw (s .pre .4) refl, rw (s .pre .5) refl, s .pre .6, search needs)
 
 add-i : tie.Need-add-i Inv-loop μ-loop
 add-i c = search needs
@@ -56,31 +54,43 @@ loop-less c = search needs
 
 loop-again : tie.Need-loop-again Inv-loop μ-loop
 loop-again c =
-    let s = c .before .before .before .before .before in
-    let a = s .before .before .args in
-    let w = word (a .t .now) in
-    let i = s .loop .i in
-    let kind = c .before .before .before .size .ensures .0 in
-    let first = c .before .before .size2 .ensures .0 in
-    let inv = s .loop .inv in
-    let sent = sends-next w (a .at) i kind (inv .2) (c .next .ensures .2) in (
-      laid-next w (a .at) i kind first (a .n) (a .e) (a .p) (c .before .size3 .ensures .0) (inv .0) (inv .2) (c .next .ensures .0),
-      number-next w (a .at) i kind first (inv .1) (c .next .ensures .1),
-      sent,
+    let loop = c .before .before .before .before in
+    let s = loop .before .before .before .before .before in
+    let a = s .args in
+    let i = loop .loop .i in
+    let inv = loop .loop .inv in
+    let kind = c .before .before .size in
+    let pair = c .before .pair in
+    let two : a .at + 3 * i + 1 + 1 ≡ a .at + 3 * i + 2 = omega arith in
+    let read = rw two at (pair .ensures .0) in
+    let low = rw two at (pair .ensures .2) in
+    let next = c .next .ensures in
+    let sent : recordsOk (a .n) (a .e) (word (a .t .now)) (a .p) (a .at) i ≡ true → loop .loop .s .sends ≡ sends (recordsAt (word (a .t .now)) (a .at) i) =
+    λ h. inv .1 h .1
+    in
+    let most = counts-most (place (kind .result)) in (
+      clear-next (a .n) (a .e) (a .p) (word (a .t .now)) (a .at) i (loop .loop .s .marks) (loop .loop .s .sends) (kind .result) (pair .result) (kind .ensures .0)
+          read (pair .ensures .1) low (s .pre .4) (s .pre .5) refl (s .pre .0) (s .pre .1) (s .pre .2) (omega arith) (inv .0) sent (next .0),
+      found-next (a .n) (a .e) (a .p) (word (a .t .now)) (a .at) i (loop .loop .s .marks) (loop .loop .s .sends) (kind .result) (pair .result) (kind .ensures .0)
+          read (pair .ensures .1) low (s .pre .4) (s .pre .5) refl (s .pre .0) (s .pre .1) (s .pre .2) (omega arith) (inv .0) sent (λ h. inv .1 h .0) (next .1)
+          (next .2),
+      omega (arith, next .2, most),
       search needs,
-      omega (arith, sends-at-most w (a .at) (i + 1)),
     )
 
 returns : tie.Need-returns Inv-loop μ-loop
 returns c =
-    let a = c .before .before .before .args in
+    let loop = c .before .loop in
+    let a = c .before .before .before .before .before .before .args in
     let w = word (a .t .now) in
-    let inv = c .before .loop .inv in
-    let h : c .before .loop .i ≡ a .c = omega arith in (
-      inv .0 ∙ ap (λ j. recordsOk (a .n) (a .e) w (a .p) (a .at) j) h,
-      inv .1 ∙ ap (λ j. number (recordsAt w (a .at) j)) h,
-      inv .2 ∙ ap (λ j. sends (recordsAt w (a .at) j)) h,
-    )
+    let h : loop .i ≡ a .c = omega arith in
+    subst
+    (λ (j : ℕ). (clear (loop .s .marks) ≡ recordsOk (a .n) (a .e) w (a .p) (a .at) j)
+    × (recordsOk (a .n) (a .e) w (a .p) (a .at) j ≡ true
+    → (loop .s .last ≡ number (recordsAt w (a .at) j) * 4294967296) × (loop .s .sends ≡ sends (recordsAt w (a .at) j)))
+    × (loop .s .sends ≤ j))
+    h
+    (loop .inv .0, loop .inv .1, loop .inv .2)
 
 pub used-spec : {M : Type 1} → statement M
 used-spec =
@@ -88,15 +98,13 @@ used-spec =
     (tie.spec
     Inv-loop
     μ-loop
-    mul-most
+    mul-own
     loop-holds
     mul-w
     add-w
     size-requires
-    add-size
-    size-requires-2
-    add-size-2
-    size-requires-3
+    add-pair
+    pair-requires
     next-requires
     add-i
     loop-less

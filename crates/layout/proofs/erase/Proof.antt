@@ -6,8 +6,8 @@ use lib.ListN.{length, length-set, replicate, drop, set}
 use lib.Seq.{drop-length}
 use borrow.Author.Fill.{fill-none, fill-more}
 use borrow.Author.Needs.{needs}
-use Rattle.layout.proofs.clear.Statement.{statement}
-use Rattle.layout.proofs.clear.Tie as tie
+use Rattle.layout.proofs.erase.Statement.{statement}
+use Rattle.layout.proofs.erase.Tie as tie
 
 abbrev Inv-loop : tie.InvT-loop
 Inv-loop t₀ i₀ t i = (t ≡ replicate i 0 ++ drop i t₀) × (length t ≡ length t₀) × (i ≤ length t₀)
@@ -43,8 +43,8 @@ returns c =
     let h : c .before .loop .i ≡ length (c .before .before .args .t .now) = omega arith in
     c .before .loop .inv .0 ∙ rw (h, drop-length, append-nil)
 
-pub clear-spec : {M : Type 1} → statement M
-clear-spec =
+pub erase-spec : {M : Type 1} → statement M
+erase-spec =
     tie.close
     (tie.spec
     Inv-loop

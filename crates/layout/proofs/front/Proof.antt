@@ -1,0 +1,36 @@
+use Prim.Native.Nat.{_+_}
+use mathlib.Core.Path.{_≡_}
+use native.Mathlib.Omega.{arith}
+use borrow.Author.Needs.{needs}
+use Rattle.xdr.specs.Words.{word}
+use Rattle.layout.proofs.Laws.{front-fold}
+use Rattle.layout.proofs.front.Statement.{statement}
+use Rattle.layout.proofs.front.Tie as tie
+
+size-requires : tie.Need-size-requires
+size-requires c κs = search needs
+
+add-used : tie.Need-add-used
+add-used c = search needs
+
+used-requires : tie.Need-used-requires
+used-requires c κs = search needs
+
+add-pair : tie.Need-add-pair
+add-pair c = search needs
+
+pair-requires : tie.Need-pair-requires
+pair-requires c κs = search needs
+
+returns : tie.Need-returns
+returns c =
+    let pair = c .before in
+    let used = pair .before .before in
+    let size = used .before in
+    let a = size .before .before .before .before .before .args in
+    let two : a .at + 1 + 1 ≡ a .at + 2 = omega arith in
+    front-fold (a .e) (word (a .t .now)) (size .size .ensures .0) (a .n) (a .p) (used .used .result .marks) (omega arith) (used .used .ensures .0)
+    (used .used .ensures .1) (omega (arith, used .used .ensures .2)) (rw two at (pair .pair .ensures .2)) (rw two at (pair .pair .ensures .0))
+
+pub front-spec : {M : Type 1} → statement M
+front-spec = tie.close (tie.spec size-requires add-used used-requires add-pair pair-requires returns)

@@ -1,0 +1,29 @@
+use borrow.Author.Needs.{needs}
+use Rattle.xdr.specs.Words.{word}
+use Rattle.layout.proofs.Laws.{rear-over, rear-within}
+use Rattle.layout.proofs.rear.Statement.{statement}
+use Rattle.layout.proofs.rear.Tie as tie
+
+size-requires : tie.Need-size-requires
+size-requires c κs = search needs
+
+returns : tie.Need-returns
+returns c =
+    let a = c .before .before .before .args in
+    rear-over (a .e) (word (a .t .now)) (c .before .size .ensures .0) (c .if1 .taken)
+
+add-unused : tie.Need-add-unused
+add-unused c = search needs
+
+unused-requires : tie.Need-unused-requires
+unused-requires c κs = search needs
+
+returns-2 : tie.Need-returns-2
+returns-2 c =
+    let left = c .before in
+    let size = left .before in
+    let a = size .before .before .args in
+    rear-within (a .e) (word (a .t .now)) (size .size .ensures .0) (left .if1 .left) (c .unused .ensures)
+
+pub rear-spec : {M : Type 1} → statement M
+rear-spec = tie.close (tie.spec size-requires returns add-unused unused-requires returns-2)
