@@ -125,16 +125,16 @@ module _ (t : List ℕ) (p q k len : ℕ) {r : ℕ} (e : r ≡ first (pairRows t
 
 -- ---- a receipt's message: section p starts at word `at` and has c records, section q starts at word `from` and has d
 
-module _ (t : List ℕ) (e at from p q k : ℕ) {c d s o m : ℕ} (i : c ≡ word t at) (j : d ≡ word t from)
-    (f : s ≡ sends (recordsAt (word t) (from + 3) d)) (g : m ≡ carried (recordsAt (word t) (from + 3) d) k)
+module _ (t : List ℕ) (e at from p q k : ℕ) {c d o m : ℕ} {found : Bool} (i : c ≡ word t at) (j : d ≡ word t from)
+    (f : found ≡ (ltb 0 k && leb k (sends (recordsAt (word t) (from + 3) d)))) (g : m ≡ carried (recordsAt (word t) (from + 3) d) k)
     (h : o ≡ destination (recordsAt (word t) (from + 3) d) k) where
   abbrev rows : List Row
   rows = receiptRowsAt t e at from p q k
 
-  pub message-missing : not (ltb 0 k && leb k s && eqb o p) ≡ true → 7 ≡ first rows
+  pub message-missing : not (found && eqb o p) ≡ true → 7 ≡ first rows
   message-missing x = rw (← j, ← f, ← h, x)
 
-  module _ (there : not (ltb 0 k && leb k s && eqb o p) ≡ false) {b : Bool} (a : b ≡ hasReceipt (recordsAt (word t) (at + 3) c) q k) where
+  module _ (there : not (found && eqb o p) ≡ false) {b : Bool} (a : b ≡ hasReceipt (recordsAt (word t) (at + 3) c) q k) where
     pub message-again : b ≡ true → 8 ≡ first rows
     message-again x = rw (← i, ← j, ← f, ← h, there, ← a, x)
 

@@ -96,7 +96,7 @@ fn message_row(t: &[u8], e: usize, at: usize, from: usize, p: usize, q: usize, k
     let c = xdr::size(t, at);
     let m = scans::find_send(t, from + 3, xdr::size(t, from), k);
     let carried = m.carried;
-    if !((0 < k) & (k <= m.sends) & ((m.to as usize) == p)) {
+    if !(m.found & ((m.to as usize) == p)) {
         return Message { row: 7, carried };
     }
     if scans::has_receipt(t, at + 3, c, q, k) {

@@ -1,35 +1,164 @@
--- One record more in the scan for a position.
-use mathlib.Core.Path.{_≡_, refl, sym, _∙_, subst}
-use mathlib.Core.Bool.{Bool, true, false, not, cond, _&&_, _||_}
-use mathlib.Core.List.{[]}
-use Prim.Native.Nat.{ℕ, _+_, _*_, _≤_}
+-- Where a scan ends: what it has found among the records that it read is what is there among all.
+use mathlib.Core.Path.{_≡_, refl, sym, ap, _∙_}
+use mathlib.Core.Bool.{Bool, true, false, not, cond, _&&_, _||_, and-false, and-eq-true-iff}
+use mathlib.Core.List.{[], _∷_}
+use Prim.Native.Nat.{ℕ, zero, suc, _+_, _*_, _≤_, _<_, zero-le}
 use native.Mathlib.Numerals.{add-one}
 use native.Mathlib.Omega.{arith}
-use lib.Dec.{eqb, leb}
+use native.Mathlib.Decide.{decLt}
+use lib.Dec.{eqb, leb, ltb}
+use lib.ListN.{length}
+use borrow.Author.Tests.{ltb-true, lt-ltb, le-leb, lt-leb, leb-false, eqb-true, eqb-false, eq-eqb, ne-eqb}
+use Rattle.rules.specs.Records.{Event, basic, forced, sent, received, History, number, sends, carried, destination, hasReceipt}
 use Rattle.rules.specs.Table.{eventOf, recordsAt}
-use Rattle.rules.specs.Lines.{numbered}
+use Rattle.rules.specs.Lines.{atLeast, numbered}
+use Rattle.theorems.proofs.Older.{Older, same, newer}
+use Rattle.theorems.proofs.Histories.{Test, passes, fails, test, sends-older, carried-older, destination-older}
+use Rattle.theorems.proofs.Steps.{or-false}
 use Rattle.theorems.proofs.WellLaid.{records-length}
+use Rattle.theorems.proofs.Cuts.{or-right}
 use Rattle.theorems.proofs.Lines.{reached, numbered-cons, numbered-le}
-use Rattle.theorems.proofs.Scans.{least-event}
+use Rattle.theorems.proofs.Scans.{least-event, sends-next, carried-next, destination-next, receipt-next}
 
-module _ (N : ℕ) (w : ℕ → ℕ) (at i : ℕ) {f : Bool} (e : f ≡ reached N (recordsAt w at i)) where
-  pub position-next : {r s : ℕ} → r ≡ numbered N (recordsAt w at i) → s ≡ cond f r (i + 1) → s ≡ numbered N (recordsAt w at (i + 1))
-  position-next g s = s ∙ rw (e, g, add-one i) (sym (numbered-cons N (eventOf (w (at + 3 * i)) (w (at + 3 * i + 1)) (w (at + 3 * i + 2)))
-      (recordsAt w at i) ∙ rw (records-length w at i)))
+-- the first records of a section are an older part of it
+records-older : (w : ℕ → ℕ) (at i c : ℕ) → i ≤ c → Older (recordsAt w at i) (recordsAt w at c)
+records-older w at i zero l = let z : i ≡ 0 = omega arith in rw z same
+records-older w at i (suc c) l = go (decLt c i) (records-older w at i c)
+  where
+    go : Dec (c < i) → (i ≤ c → Older (recordsAt w at i) (recordsAt w at c)) → Older (recordsAt w at i) (recordsAt w at (suc c))
+    go (yes k) f = let z : i ≡ suc c = omega arith in rw z same
+    go (no k) f = newer (f (omega arith))
 
-  pub reached-next : {kind a : ℕ} → kind ≡ w (at + 3 * i) → a ≡ w (at + 3 * i + 1)
-      → (f || (not (eqb kind 4 || eqb kind 3) && leb N a)) ≡ reached N (recordsAt w at (i + 1))
-  reached-next {kind} {a} x y =
-      swap f (not (eqb kind 4 || eqb kind 3) && leb N a) ∙ rw (e, x, y, add-one i, least-event N (w (at + 3 * i)) (w (at + 3 * i + 1)) (w (at + 3 * i + 2)))
+-- ---- the position of the first checkpoint with number N or more
+
+module _ (N : ℕ) where
+  reached-older : {h g : History} → Older h g → reached N h ≡ true → reached N g ≡ true
+  reached-older same t = t
+  reached-older (newer {e} {g} o) t = or-right (atLeast N e) (reached N g) (reached-older o t)
+
+  -- once such a checkpoint is reached, later records leave the position where it is
+  numbered-older : {h g : History} → Older h g → reached N h ≡ true → numbered N g ≡ numbered N h
+  numbered-older same t = refl
+  numbered-older (newer {e} {g} o) t = numbered-cons N e g ∙ rw (reached-older o t) (numbered-older o t)
+
+  numbered-unreached : (h : History) → reached N h ≡ false → numbered N h ≡ length h
+  numbered-unreached [] f = let l = numbered-le N [] in omega arith
+  numbered-unreached (e ∷ h) f = numbered-cons N e h ∙ rw (or-false (atLeast N e) (reached N h) f .1)
+
+  module _ (w : ℕ → ℕ) (at : ℕ) where
+    pub position-initial : (c : ℕ) → N ≡ 0 → 0 ≡ numbered N (recordsAt w at c)
+    position-initial c z =
+        let l = numbered-le N [] in
+        let e = numbered-older (records-older w at 0 c zero-le) (le-leb N 0 (omega arith)) in
+        omega arith
+
+    pub position-none : {i c : ℕ} → i ≡ c → reached N (recordsAt w at i) ≡ false → c ≡ numbered N (recordsAt w at c)
+    position-none {c} e f =
+        sym (numbered-unreached (recordsAt w at c) (ap (λ (j : ℕ). reached N (recordsAt w at j)) (sym e) ∙ f) ∙ records-length w at c)
+
+    -- record i
+    module _ (i : ℕ) (none : reached N (recordsAt w at i) ≡ false) where
+      abbrev event : Event
+      event = eventOf (w (at + 3 * i)) (w (at + 3 * i + 1)) (w (at + 3 * i + 2))
+
+      passed : atLeast N event ≡ false → reached N (recordsAt w at (i + 1)) ≡ false
+      passed f = rw (add-one i, f, none)
+
+      module _ {a : ℕ} (y : a ≡ w (at + 3 * i + 1)) where
+        pub position-low : a < N → reached N (recordsAt w at (i + 1)) ≡ false
+        position-low l =
+            passed
+            (least-event N (w (at + 3 * i)) (w (at + 3 * i + 1)) (w (at + 3 * i + 2))
+            ∙ rw (← y, lt-leb N a l) (and-false (not (eqb (w (at + 3 * i)) 4 || eqb (w (at + 3 * i)) 3))))
+
+        module _ {kind : ℕ} (x : kind ≡ w (at + 3 * i)) where
+          pub position-message : (eqb kind 4 || eqb kind 3) ≡ true → reached N (recordsAt w at (i + 1)) ≡ false
+          position-message t = passed (least-event N (w (at + 3 * i)) (w (at + 3 * i + 1)) (w (at + 3 * i + 2)) ∙ rw (← x, t))
+
+          pub position-found : {c : ℕ} → i < c → N ≤ a → (eqb kind 4 || eqb kind 3) ≡ false → i + 1 ≡ numbered N (recordsAt w at c)
+          position-found {c} l le f =
+              let least : atLeast N event ≡ true = least-event N (w (at + 3 * i)) (w (at + 3 * i + 1)) (w (at + 3 * i + 2)) ∙ rw (← x, ← y, f, le-leb N a le) in
+              let t : reached N (recordsAt w at (suc i)) ≡ true = rw least in
+              let n : suc i ≡ numbered N (recordsAt w at (suc i)) = rw (numbered-cons N event (recordsAt w at i), none, records-length w at i) in
+              add-one i ∙ n ∙ sym (numbered-older (records-older w at (suc i) c (omega arith)) t)
+
+-- ---- send k
+
+-- whether it is there, the number that it carries and its destination
+abbrev pub Answers : ℕ → History → Bool → ℕ → ℕ → Type 0
+Answers k h found m d = (found ≡ (ltb 0 k && leb k (sends h))) × (m ≡ carried h k) × (d ≡ destination h k)
+
+pub send-none : (k : ℕ) → Answers k [] false 0 0
+send-none k = (go (test (ltb 0 k)), refl, refl)
+  where
+    go : Test (ltb 0 k) → false ≡ (ltb 0 k && leb k 0)
+    go (passes p) = let l = ltb-true 0 k p in rw (p, lt-leb k 0 l)
+    go (fails p) = rw p
+
+-- record i, before which there are s sends and after which there are n
+module _ (w : ℕ → ℕ) (at i k : ℕ) {kind a s n m : ℕ} (x : kind ≡ w (at + 3 * i)) (y : a ≡ w (at + 3 * i + 1))
+    (e : m ≡ number (recordsAt w at i)) (f : s ≡ sends (recordsAt w at i)) (u : n ≡ cond (eqb kind 3) (s + 1) s) where
+  after : n ≡ sends (recordsAt w at (i + 1))
+  after = sends-next w at i x f u
+
+  -- whether it is send k
+  hit : (eqb kind 3 && eqb n k) ≡ (eqb kind 3 && eqb k (s + 1))
+  hit = go (test (eqb kind 3)) (test (eqb k (s + 1)))
     where
-      swap : (x y : Bool) → (x || y) ≡ (y || x)
-      swap true true = refl
-      swap true false = refl
-      swap false true = refl
-      swap false false = refl
+      go : Test (eqb kind 3) → Test (eqb k (s + 1)) → (eqb kind 3 && eqb n k) ≡ (eqb kind 3 && eqb k (s + 1))
+      go (passes p) (passes q) = let r : n ≡ s + 1 = rw p at u in let l = eqb-true k (s + 1) q in rw (p, q, eq-eqb n k (omega arith))
+      go (passes p) (fails q) = let r : n ≡ s + 1 = rw p at u in let l = eqb-false k (s + 1) q in rw (p, q, ne-eqb n k (omega arith))
+      go (fails p) q = rw p
 
-pub numbered-none : (N : ℕ) → 0 ≡ numbered N []
-numbered-none N = let l = numbered-le N [] in omega arith
+  pub send-found : {c : ℕ} → i < c → (eqb kind 3 && eqb n k) ≡ true → Answers k (recordsAt w at c) true m a
+  send-found {c} l t =
+      let o = records-older w at (i + 1) c (omega arith) in
+      let v = after in
+      let j = eqb-true n k (and-eq-true-iff (eqb kind 3) (eqb n k) .0 t .1) in
+      let d = eqb-true k (s + 1) (and-eq-true-iff (eqb kind 3) (eqb k (s + 1)) .0 (sym hit ∙ t) .1) in
+      let le : k ≤ sends (recordsAt w at (i + 1)) = omega arith in
+      let b = sends-older o in (
+        rw (lt-ltb 0 k (omega arith), le-leb k (sends (recordsAt w at c)) (omega arith)),
+        carried-next w at i x k e f refl (rw (← hit, t)) ∙ sym (carried-older o k le),
+        destination-next w at i x y k f refl (rw (← hit, t)) ∙ sym (destination-older o k le),
+      )
 
-pub position-le : (N : ℕ) (w : ℕ → ℕ) (at c : ℕ) → numbered N (recordsAt w at c) ≤ c
-position-le N w at c = subst (λ (x : ℕ). numbered N (recordsAt w at c) ≤ x) (records-length w at c) (numbered-le N (recordsAt w at c))
+  pub send-passed : (eqb kind 3 && eqb n k) ≡ false → Answers k (recordsAt w at i) false 0 0 → Answers k (recordsAt w at (i + 1)) false 0 0
+  send-passed t g = (
+    go (test (ltb 0 k)) (test (eqb kind 3)),
+    carried-next w at i x k e f (g .1) (rw (← hit, t)),
+    destination-next w at i x y k f (g .2) (rw (← hit, t)),
+  )
+    where
+      go : Test (ltb 0 k) → Test (eqb kind 3) → false ≡ (ltb 0 k && leb k (sends (recordsAt w at (i + 1))))
+      go (fails p) q = rw p
+      go (passes p) (passes q) =
+          let l = leb-false k (sends (recordsAt w at i)) (sym (rw p at (g .0))) in
+          let ne = eqb-false n k (rw q at t) in
+          let r : n ≡ s + 1 = rw q at u in
+          let v = after in
+          rw (p, lt-leb k (sends (recordsAt w at (i + 1))) (omega arith))
+      go (passes p) (fails q) =
+          let l = leb-false k (sends (recordsAt w at i)) (sym (rw p at (g .0))) in
+          let r : n ≡ s = rw q at u in
+          let v = after in
+          rw (p, lt-leb k (sends (recordsAt w at (i + 1))) (omega arith))
+
+-- ---- a receipt of (q, k)
+
+module _ (q k : ℕ) where
+  receipt-older : {h g : History} → Older h g → hasReceipt h q k ≡ true → hasReceipt g q k ≡ true
+  receipt-older same t = t
+  receipt-older (newer {e = basic m} o) t = receipt-older o t
+  receipt-older (newer {e = forced m} o) t = receipt-older o t
+  receipt-older (newer {e = sent d} o) t = receipt-older o t
+  receipt-older (newer {e = received r j} {g} o) t = or-right (eqb r q && eqb j k) (hasReceipt g q k) (receipt-older o t)
+
+  -- record i, before which there is none
+  module _ (w : ℕ → ℕ) (at i : ℕ) {kind a b : ℕ} (x : kind ≡ w (at + 3 * i)) (y : a ≡ w (at + 3 * i + 1)) (z : b ≡ w (at + 3 * i + 2))
+      (none : hasReceipt (recordsAt w at i) q k ≡ false) where
+    pub receipt-after : hasReceipt (recordsAt w at (i + 1)) q k ≡ (eqb kind 4 && eqb a q && eqb b k)
+    receipt-after = sym (receipt-next w at i x y q k z (sym none))
+
+    pub receipt-found : {c : ℕ} → i < c → (eqb kind 4 && eqb a q && eqb b k) ≡ true → true ≡ hasReceipt (recordsAt w at c) q k
+    receipt-found {c} l t = sym (receipt-older (records-older w at (i + 1) c (omega arith)) (receipt-after ∙ t))

@@ -1,24 +1,25 @@
-use Prim.Native.Nat.{_+_, _-_, _≤_}
-use mathlib.Core.Path.{_≡_, refl, ap, _∙_}
+use Prim.Native.Nat.{_-_, _≤_}
+use mathlib.Core.Path.{_≡_, refl}
+use mathlib.Core.Bool.{false}
 use native.Mathlib.Omega.{arith}
 use borrow.Author.Needs.{needs}
 use Rattle.xdr.specs.Words.{word}
-use Rattle.rules.specs.Records.{number, sends, carried, destination}
+use Rattle.rules.specs.Records.{number as numberOf, sends as sendsOf}
 use Rattle.rules.specs.Table.{recordsAt}
-use Rattle.theorems.proofs.Scans.{number-next, sends-next, carried-next, destination-next, sends-at-most}
+use Rattle.theorems.proofs.Scans.{number-next, sends-next, sends-at-most}
+use Rattle.scans.proofs.Laws.{Answers, send-none, send-found, send-passed}
 use Rattle.scans.proofs.find_send.Statement.{statement}
 use Rattle.scans.proofs.find_send.Tie as tie
 
 abbrev Inv-loop : tie.InvT-loop
-Inv-loop t at c k s₀ i₀ s i =
-    (s .number ≡ number (recordsAt (word t) at i)) × (s .sends ≡ sends (recordsAt (word t) at i)) × (s .carried ≡ carried (recordsAt (word t) at i) k)
-    × (s .to ≡ destination (recordsAt (word t) at i) k) × (i ≤ c) × (s .sends ≤ i)
+Inv-loop t at c k number₀ sends₀ i₀ number sends i =
+    (number ≡ numberOf (recordsAt (word t) at i)) × (sends ≡ sendsOf (recordsAt (word t) at i)) × Answers k (recordsAt (word t) at i) false 0 0 × (i ≤ c)
 
 abbrev μ-loop : tie.MeasureT-loop
-μ-loop t at c k s₀ i₀ s i = c - i
+μ-loop t at c k number₀ sends₀ i₀ number sends i = c - i
 
 loop-holds : tie.Need-loop-holds Inv-loop μ-loop
-loop-holds c = (refl, refl, refl, refl, search needs, search needs)
+loop-holds c = (refl, refl, send-none (c .before .args .k), search needs)
 
 mul-w : tie.Need-mul-w Inv-loop μ-loop
 mul-w c = search needs
@@ -35,8 +36,26 @@ add-get c = search needs
 get-requires-2 : tie.Need-get-requires-2 Inv-loop μ-loop
 get-requires-2 c κs = search needs
 
-sent-next-requires : tie.Need-sent-next-requires Inv-loop μ-loop
-sent-next-requires c κs = search needs
+add-pick : tie.Need-add-pick Inv-loop μ-loop
+add-pick c =
+    let s = c .before .before .before in
+    let a = s .before .before .args in
+    omega (arith, sends-at-most (word (a .t .now)) (a .at) (s .loop .i))
+
+pick-requires : tie.Need-pick-requires Inv-loop μ-loop
+pick-requires c κs = search needs
+
+returns : tie.Need-returns Inv-loop μ-loop
+returns c =
+    let p = c .before in
+    let s = p .before .before .before .before in
+    let a = s .before .before .args in
+    let inv = s .loop .inv in
+    send-found (word (a .t .now)) (a .at) (s .loop .i) (a .k) (p .before .before .get .ensures) (p .before .get2 .ensures) (inv .0) (inv .1)
+    (p .pick .ensures) (p .before .before .before .loop-test .taken) (c .if1 .taken)
+
+pick-requires-2 : tie.Need-pick-requires-2 Inv-loop μ-loop
+pick-requires-2 c κs = search needs
 
 add-i : tie.Need-add-i Inv-loop μ-loop
 add-i c = search needs
@@ -46,33 +65,25 @@ loop-less c = search needs
 
 loop-again : tie.Need-loop-again Inv-loop μ-loop
 loop-again c =
-    let s = c .before .before .before .before in
+    let p = c .before .before in
+    let s = p .before .before .before .before in
     let a = s .before .before .args in
     let w = word (a .t .now) in
     let i = s .loop .i in
-    let kind = c .before .before .get .ensures in
-    let first = c .before .get2 .ensures in
-    let inv = s .loop .inv in
-    let next = c .sent-next .ensures in
-    let sent = sends-next w (a .at) i kind (inv .1) (next .1) in (
-      number-next w (a .at) i kind first (inv .0) (next .0),
-      sent,
-      carried-next w (a .at) i kind (a .k) (inv .0) (inv .1) (inv .2) (next .2),
-      destination-next w (a .at) i kind first (a .k) (inv .1) (inv .3) (next .3),
+    let kind = p .before .before .get .ensures in
+    let first = p .before .get2 .ensures in
+    let inv = s .loop .inv in (
+      number-next w (a .at) i kind first (inv .0) (c .pick2 .ensures),
+      sends-next w (a .at) i kind (inv .1) (p .pick .ensures),
+      send-passed w (a .at) i (a .k) kind first (inv .0) (inv .1) (p .pick .ensures) (c .before .if1 .left) (inv .2),
       search needs,
-      omega (arith, sends-at-most w (a .at) (i + 1)),
     )
 
-returns : tie.Need-returns Inv-loop μ-loop
-returns c =
+returns-2 : tie.Need-returns-2 Inv-loop μ-loop
+returns-2 c =
     let a = c .before .before .before .args in
-    let w = word (a .t .now) in
-    let inv = c .before .loop .inv in
-    let h : c .before .loop .i ≡ a .c = omega arith in (
-      inv .1 ∙ ap (λ j. sends (recordsAt w (a .at) j)) h,
-      inv .2 ∙ ap (λ j. carried (recordsAt w (a .at) j) (a .k)) h,
-      inv .3 ∙ ap (λ j. destination (recordsAt w (a .at) j) (a .k)) h,
-    )
+    let h : c .before .loop .i ≡ a .c = omega arith in
+    rw (← h) (c .before .loop .inv .2)
 
 pub find-send-spec : {M : Type 1} → statement M
 find-send-spec =
@@ -86,8 +97,11 @@ find-send-spec =
     get-requires
     add-get
     get-requires-2
-    sent-next-requires
+    add-pick
+    pick-requires
+    returns
+    pick-requires-2
     add-i
     loop-less
     loop-again
-    returns)
+    returns-2)

@@ -1,19 +1,20 @@
 use Prim.Native.Nat.{_-_, _≤_}
-use mathlib.Core.Path.{_≡_, refl, ap, _∙_}
+use mathlib.Core.Path.{_≡_, refl, sym, ap, _∙_}
+use mathlib.Core.Bool.{false}
 use native.Mathlib.Omega.{arith}
 use borrow.Author.Needs.{needs}
 use Rattle.xdr.specs.Words.{word}
 use Rattle.rules.specs.Records.{hasReceipt}
 use Rattle.rules.specs.Table.{recordsAt}
-use Rattle.theorems.proofs.Scans.{receipt-next}
+use Rattle.scans.proofs.Laws.{receipt-after, receipt-found}
 use Rattle.scans.proofs.has_receipt.Statement.{statement}
 use Rattle.scans.proofs.has_receipt.Tie as tie
 
 abbrev Inv-loop : tie.InvT-loop
-Inv-loop t at c q k found₀ i₀ found i = (found ≡ hasReceipt (recordsAt (word t) at i) q k) × (i ≤ c)
+Inv-loop t at c q k i₀ i = (hasReceipt (recordsAt (word t) at i) q k ≡ false) × (i ≤ c)
 
 abbrev μ-loop : tie.MeasureT-loop
-μ-loop t at c q k found₀ i₀ found i = c - i
+μ-loop t at c q k i₀ i = c - i
 
 loop-holds : tie.Need-loop-holds Inv-loop μ-loop
 loop-holds c = (refl, search needs)
@@ -39,6 +40,14 @@ add-size-2 c = search needs
 size-requires-3 : tie.Need-size-requires-3 Inv-loop μ-loop
 size-requires-3 c κs = search needs
 
+returns : tie.Need-returns Inv-loop μ-loop
+returns c =
+    let r = c .before in
+    let s = r .before .before .before .before in
+    let a = s .before .before .args in
+    receipt-found (a .q) (a .k) (word (a .t .now)) (a .at) (s .loop .i) (r .before .before .size .ensures .0) (r .before .size2 .ensures .0)
+    (r .size3 .ensures .0) (s .loop .inv .0) (r .before .before .before .loop-test .taken) (c .if1 .taken)
+
 add-i : tie.Need-add-i Inv-loop μ-loop
 add-i c = search needs
 
@@ -47,15 +56,19 @@ loop-less c = search needs
 
 loop-again : tie.Need-loop-again Inv-loop μ-loop
 loop-again c =
-    let s = c .before .before .before .before in
-    let a = s .before .before .args in
-    (receipt-next (word (a .t .now)) (a .at) (s .loop .i) (c .before .before .size .ensures .0) (c .before .size2 .ensures .0) (a .q) (a .k) (c .size3 .ensures .0) (s .loop .inv .0), search needs)
+    let r = c .before in
+    let s = r .before .before .before .before in
+    let a = s .before .before .args in (
+      receipt-after (a .q) (a .k) (word (a .t .now)) (a .at) (s .loop .i) (r .before .before .size .ensures .0) (r .before .size2 .ensures .0)
+          (r .size3 .ensures .0) (s .loop .inv .0) ∙ c .if1 .left,
+      search needs,
+    )
 
-returns : tie.Need-returns Inv-loop μ-loop
-returns c =
+returns-2 : tie.Need-returns-2 Inv-loop μ-loop
+returns-2 c =
     let a = c .before .before .before .args in
     let h : c .before .loop .i ≡ a .c = omega arith in
-    c .before .loop .inv .0 ∙ ap (λ j. hasReceipt (recordsAt (word (a .t .now)) (a .at) j) (a .q) (a .k)) h
+    sym (c .before .loop .inv .0) ∙ ap (λ j. hasReceipt (recordsAt (word (a .t .now)) (a .at) j) (a .q) (a .k)) h
 
 pub has-receipt-spec : {M : Type 1} → statement M
 has-receipt-spec =
@@ -71,7 +84,8 @@ has-receipt-spec =
     size-requires-2
     add-size-2
     size-requires-3
+    returns
     add-i
     loop-less
     loop-again
-    returns)
+    returns-2)
