@@ -158,13 +158,13 @@ module _ (w : ℕ → ℕ) (at : ℕ) where
 
   -- ---- tests
 
-  pub late-event : (counts : List ℕ) (i : ℕ) {kind a b : ℕ} → kind ≡ w (at + 3 * i) → a ≡ w (at + 3 * i + 1) → b ≡ w (at + 3 * i + 2)
-      → (eqb kind 4 && ltb (getD counts (a % 16) 0) b) ≡ late counts (record-at i)
-  late-event counts i x y z =
+  pub late-event : (counts : List ℕ) (i : ℕ) {kind a b k : ℕ} → kind ≡ w (at + 3 * i) → a ≡ w (at + 3 * i + 1)
+      → b ≡ w (at + 3 * i + 2) → k ≡ getD counts (a % 16) 0 → (eqb kind 4 && ltb k b) ≡ late counts (record-at i)
+  late-event counts i x y z u =
       let k = w (at + 3 * i) in
       let a = w (at + 3 * i + 1) in
       let b = w (at + 3 * i + 2) in
-      rw (x, y, z) (sym (receipt-only (late counts) k a b (ltb (getD counts (a % 16) 0) b) (event (late counts) k a b refl)))
+      rw (u, x, y, z) (sym (receipt-only (late counts) k a b (ltb (getD counts (a % 16) 0) b) (event (late counts) k a b refl)))
 
   pub unsent-event : (E p : ℕ) (to : List ℕ) (i : ℕ) {kind a b d : ℕ} → kind ≡ w (at + 3 * i) → a ≡ w (at + 3 * i + 1)
       → b ≡ w (at + 3 * i + 2) → d ≡ place E (length to) a b

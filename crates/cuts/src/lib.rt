@@ -44,16 +44,23 @@ pub fn back_to(t: &[u8], at: usize, c: usize, k: usize, r: usize) -> Part
     }
 }
 
+// A position or a count of sends is at most 1,024, so that sixteen bits hold it.
+pub fn wide(x: u16) -> usize
+    ensures { λ r. ⌜ r ≡ x ⌝ }
+{
+    x as usize
+}
+
 // How many records come before the first one that is late, c if none is.
-pub fn first_late(t: &[u8], at: usize, c: usize, sends: [usize; 16]) -> usize
-    requires { ⌜ (c ≤ 1024) × (4 * (at + 3 * c) ≤ length (now t)) ⌝ }
-    ensures { λ r. ⌜ r ≡ length (before (late sends) (recordsAt (word (now (t .entry))) at c)) ⌝ }
+pub fn first_late(t: &[u8], at: usize, c: usize, sends: &[u16]) -> usize
+    requires { ⌜ (c ≤ 1024) × (4 * (at + 3 * c) ≤ length (now t)) × (length (now sends) ≡ 16) ⌝ }
+    ensures { λ r. ⌜ r ≡ length (before (late (now (sends .entry))) (recordsAt (word (now (t .entry))) at c)) ⌝ }
 {
     let mut i: usize = 0;
     while i < c {
         let w = at + 3 * i;
         let q = xdr::size(t, w + 1) % 16;
-        if (xdr::size(t, w) == 4) & (sends[q] < xdr::size(t, w + 2)) {
+        if (xdr::size(t, w) == 4) & (wide(sends[q]) < xdr::size(t, w + 2)) {
             return i;
         }
         i += 1;

@@ -93,13 +93,13 @@ line-positions t b {n} {E} L mask {P} {Q} {R} {S} O a none C d late-none =
 abbrev pub Found : State → List ℕ → ℕ → ℕ → ℕ → Type 0
 Found s P p mask bit = (mask ≡ backBelow s P p) × (bit ≡ 2 ^ p) × (mask < bit) × (bit ≤ 65536)
 
-pub found-next : (t : List ℕ) → Bytes t → {n E : ℕ} → Laid t n E → (P : List ℕ) (p : ℕ) → p < n → {at c mask bit x : ℕ}
+pub found-next : (t : List ℕ) → Bytes t → {n E : ℕ} → Laid t n E → (P : List ℕ) (p : ℕ) → p < n → {at c mask bit x y : ℕ}
     → at ≡ start E p → c ≡ word t at → Found (decoded t) P p mask bit
-    → x ≡ cond (ltb (getD P p 0) c) bit 0 → Found (decoded t) P (p + 1) (mask + x) (bit * 2)
-found-next t b {n} {E} L P p lt {at} {c} {mask} {bit} {x} i z (a, d, f, g) e =
+    → y ≡ getD P p 0 → x ≡ cond (ltb y c) bit 0 → Found (decoded t) P (p + 1) (mask + x) (bit * 2)
+found-next t b {n} {E} L P p lt {at} {c} {mask} {bit} {x} i z (a, d, f, g) m e =
     let s = decoded t in
     let k : c ≡ length (history s p) = z ∙ section t b L p lt i .count in
-    let u : mask + x ≡ backBelow s P (suc p) = rw (a, e, k, d) in
+    let u : mask + x ≡ backBelow s P (suc p) = rw (a, e, m, k, d) in
     let v : bit * 2 ≡ 2 ^ suc p = rw (pow-suc 2 p, d) in
     let few = L .3 in
     let w = mask-lt s P (suc p) in

@@ -11,7 +11,7 @@ ghost use Rattle.rules.specs.Calls.{outcome, first, tableRows, failureRows, fai
 ghost use Rattle.lowering.specs.Lowering.{Laid};
 
 // The positions of the failure line, of which the first n count.
-fn positions(t: &[u8], n: usize, e: usize, mask: u32) -> [usize; 16]
+fn positions(t: &[u8], n: usize, e: usize, mask: u32) -> [u16; 16]
     requires { ⌜ Laid (now t) n e ⌝ }
     ensures { λ r. ⌜ ((p : ℕ) → p < n → (getD r p 0 ≡ getD (failureLine mask (decoded (now (t .entry)))) p 0)) × ((p : ℕ) → p < n → getD r p 0 ≤ 1024) ⌝ }
 {
@@ -21,7 +21,7 @@ fn positions(t: &[u8], n: usize, e: usize, mask: u32) -> [usize; 16]
 }
 
 // The mask of the processes that go back.
-fn back(t: &[u8], n: usize, e: usize, position: [usize; 16]) -> u32
+fn back(t: &[u8], n: usize, e: usize, position: [u16; 16]) -> u32
     requires { ⌜ Laid (now t) n e ⌝ }
     ensures { λ r. ⌜ r ≡ backBelow (decoded (now (t .entry))) position n ⌝ }
 {
@@ -30,7 +30,7 @@ fn back(t: &[u8], n: usize, e: usize, position: [usize; 16]) -> u32
     let mut p: usize = 0;
     while p < n {
         let c = xdr::size(t, layout::start(e, p));
-        mask = mask + layout::pick(position[p] < c, bit, 0);
+        mask = mask + layout::pick(cuts::wide(position[p]) < c, bit, 0);
         bit = bit * 2;
         p += 1;
     }
@@ -38,7 +38,7 @@ fn back(t: &[u8], n: usize, e: usize, position: [usize; 16]) -> u32
 }
 
 // Writes the first n positions.
-fn put_positions(area: &mut [u8], n: usize, position: [usize; 16])
+fn put_positions(area: &mut [u8], n: usize, position: [u16; 16])
     requires { ⌜ (n ≤ 16) × (4 * n ≤ length (now area)) × ((p : ℕ) → p < n → getD position p 0 ≤ 1024) ⌝ }
     ensures { λ _. ⌜ now (area .exit) ≡ putEach (now (area .entry)) (λ p. getD position p 0) n ⌝ }
 {
@@ -50,7 +50,7 @@ fn put_positions(area: &mut [u8], n: usize, position: [usize; 16])
 }
 
 // Writes the answer: the positions, the mask, and how many ones it has.
-fn answer(area: &mut [u8], n: usize, position: [usize; 16], mask: u32)
+fn answer(area: &mut [u8], n: usize, position: [u16; 16], mask: u32)
     requires { ⌜ (n ≤ 16) × (4 * n + 8 ≤ length (now area)) × ((p : ℕ) → p < n → getD position p 0 ≤ 1024) ⌝ }
     ensures { λ _. ⌜ now (area .exit) ≡ putWord (putWord (putEach (now (area .entry)) (λ p. getD position p 0) n) n mask) (n + 1) (ones mask) ⌝ }
 {

@@ -17,7 +17,7 @@ use Rattle.theorems.proofs.Histories.{Test, passes, fails, test, sends-older, d
 use Rattle.theorems.proofs.Cuts.{upto-is-older, upto-mono, any-older, any-none, none-any, lowered-le, lowered-permitted, lowered-keeps}
 use Rattle.theorems.proofs.Failure.{each-length, each-at, failure-line}
 use Rattle.cuts.specs.Tests.{late}
-use Rattle.lowering.specs.Lowering.{Counted, Over, Lowered, lost, NoneLost, NoneLate, total}
+use Rattle.lowering.specs.Lowering.{Counted, Over, Lowered, lost, NoneLost, NoneLate}
 
 pub decEq : (q p : ℕ) → Dec (q ≡ p)
 decEq q p = go (test (eqb q p))
@@ -25,6 +25,11 @@ decEq q p = go (test (eqb q p))
     go : Test (eqb q p) → Dec (q ≡ p)
     go (passes e) = yes (eqb-true q p e)
     go (fails e) = no (eqb-false q p e)
+
+-- the sum of the first p positions
+abbrev pub total : List ℕ → ℕ → ℕ
+total position zero = 0
+total position (suc p) = total position p + getD position p 0
 
 -- no process has records but those of the state
 beyond : (s : State) (q : ℕ) → length s ≤ q → history s q ≡ []

@@ -20,8 +20,8 @@ use Rattle.theorems.proofs.Laid.{Law, Legal, sends-length}
 use Rattle.theorems.proofs.Cuts.{upto-is-older}
 use Rattle.cuts.specs.Tests.{place, unsent, noteOf, noted}
 use Rattle.lowering.specs.Lowering.{Laid, Counted, lost, goes, Noted, Blank}
-use Rattle.lowering.proofs.Cuts.{decEq}
-use Rattle.lowering.proofs.Steps.{lawful, section, view}
+use Rattle.lowering.proofs.Cuts.{decEq, lost-fair}
+use Rattle.lowering.proofs.Steps.{lawful, section, view, Written, step}
 
 module _ (E q : ℕ) (to : List ℕ) where
   pub noted-length : (h : History) → length (noted E q h to) ≡ length to
@@ -152,11 +152,12 @@ module _ (t : List ℕ) (b : Bytes t) {n E : ℕ} (L : Laid t n E) (p : ℕ) (lt
       (e ∙ ap (λ (h : History). noted E p h to) (ap (recordsAt (word t) (at + 3)) z ∙ H .events))
 
   -- what the scan finds is the first receipt that is an orphan in every cut
-  pub lost-first : (P S : List ℕ) → Counted (decoded t) P S → (to : List ℕ) → n * E < length to → Noted (decoded t) E to n
-      → {r : ℕ} → r ≡ length (before (unsent E p to) (recordsAt (word t) (at + 3) (getD P p 0)))
-      → r ≡ length (before (lost (decoded t) p) (recordsAt (word t) (at + 3) (getD P p 0)))
-  lost-first P S C to room N e =
+  pub lost-step : (P S : List ℕ) → Counted (decoded t) P S → (to : List ℕ) → n * E < length to → Noted (decoded t) E to n
+      → {c : ℕ} → c ≡ getD P p 0 → {r : ℕ} → r ≡ length (before (unsent E p to) (recordsAt (word t) (at + 3) c))
+      → Written t P S n p at (lost (decoded t) p) c r
+  lost-step P S C to room N {c} is e =
       let f = L .3 in
-      let here = view t b L P S C p lt i .here in
+      let here = view t b L P S C p lt i is .here in
       let legal = each-older (Law n E p) (upto-is-older (getD P p 0) (history (decoded t) p)) (lawful t b L p) in
-      e ∙ ap length (unsent-lost (decoded t) n E p to (omega arith) room N (recordsAt (word t) (at + 3) (getD P p 0)) (subst (Legal n E p) here legal))
+      let same = unsent-lost (decoded t) n E p to (omega arith) room N (recordsAt (word t) (at + 3) c) (subst (Legal n E p) here legal) in
+      step t b L P S C p lt i (lost (decoded t) p) (lost-fair (decoded t) P p) is (e ∙ ap length same)

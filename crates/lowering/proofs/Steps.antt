@@ -1,16 +1,16 @@
 -- One turn of the loops that lower a cut: what the scan of a process's records finds, and the cut after it is taken back.
 use mathlib.Core.Path.{_≡_, refl, sym, ap, _∙_, subst}
-use mathlib.Core.Logic.{_≢_}
-use mathlib.Core.Bool.{Bool, true, false, cond, _||_}
+use mathlib.Core.Logic.{_≢_, _⊎_, inl, inr, ⊎-elim}
+use mathlib.Core.Bool.{Bool, true, false, cond}
 use mathlib.Core.List.{List}
-use Prim.Native.Nat.{ℕ, zero, suc, _+_, _*_, _≤_, _<_}
+use Prim.Native.Nat.{ℕ, zero, suc, _+_, _-_, _*_, _≤_, _<_}
 use native.Mathlib.Nat.{le-trans}
 use native.Mathlib.Omega.{arith}
 use native.Mathlib.Decide.{decLt}
 use lib.Dec.{ltb}
 use lib.ListN.{length, getD, set, replicate, length-replicate, getD-replicate}
-use lib.Seq.{getD-set-same, getD-set-other}
-use borrow.Author.Tests.{lt-ltb, le-ltb, le-leb, lt-leb}
+use lib.Seq.{getD-set-same, getD-set-other, set-getD}
+use borrow.Author.Tests.{ltb-true, ltb-false, lt-ltb, le-ltb, le-leb, lt-leb}
 use Rattle.xdr.specs.Words.{word}
 use Rattle.xdr.proofs.Laws.{Bytes}
 use Rattle.rules.specs.Records.{Event, History, State, history, sends}
@@ -18,17 +18,19 @@ use Rattle.rules.specs.Table.{start, recordsAt, decoded}
 use Rattle.rules.specs.Lines.{upto, part, any, before, lastSaved, lowered, failed, top}
 use Rattle.rules.specs.Calls.{tableRows}
 use Rattle.theorems.proofs.Older.{Older, same, older-length}
-use Rattle.theorems.proofs.Histories.{Test, passes, fails, test}
-use Rattle.theorems.proofs.Steps.{none-met, or-false}
+use Rattle.theorems.proofs.Histories.{Test, passes, fails, test, sends-older}
+use Rattle.theorems.proofs.Steps.{none-met}
 use Rattle.theorems.proofs.Lines.{upto-older}
-use Rattle.theorems.proofs.Laid.{Legal}
+use Rattle.theorems.proofs.Laid.{Legal, sends-length}
 use Rattle.theorems.proofs.WellLaid.{records-length, decoded-length}
 use Rattle.theorems.proofs.OneCall.{Whole, whole, table-legal}
 use Rattle.theorems.proofs.Outcomes.{Head, head}
-use Rattle.theorems.proofs.Cuts.{last-le, top-le, top-permitted, top-latest, before-older, before-less, before-all, lowered-le, lowered-none, lowered-less, clash}
+use Rattle.theorems.proofs.Cuts.{upto-is-older, last-le, top-le, top-permitted, top-latest, clash}
+use Rattle.theorems.proofs.Cuts.{before-older, before-less, before-all, lowered-le, lowered-none, lowered-less}
 use Rattle.cuts.specs.Tests.{late}
-use Rattle.lowering.specs.Lowering.{Laid, Counted, Over, Lowered, lost, total, Pruned, Swept, Blank}
-use Rattle.lowering.proofs.Cuts.{decEq, lowered-refl, lowered-trans, part-same, part-other, set-counted, set-total, Fair, lower-fair}
+use Rattle.lowering.specs.Lowering.{Laid, Counted, Over, Lowered, lost, Pruned, Settled, Blank}
+use Rattle.lowering.proofs.Cuts.{decEq, total, lowered-refl, lowered-trans, part-same, part-other, set-counted, set-total}
+use Rattle.lowering.proofs.Cuts.{Fair, lower-fair, late-fair}
 
 -- ---- older parts of the records from word `at` on
 
@@ -67,17 +69,18 @@ module _ (t : List ℕ) (b : Bytes t) {n E : ℕ} (L : Laid t n E) where
   pub section : (p : ℕ) → p < n → {at : ℕ} → at ≡ start E p → Head t p E at
   section p lt i = head t is-whole p (let e = L .1 in omega arith) (L .2) i
 
-  -- process p's part of a cut, where its section starts at word `at`
-  pub record View (P S : List ℕ) (p at : ℕ) : Type 0 where
-    pub inside : 4 * (at + 3 + 3 * getD P p 0) ≤ length t
-    pub small : getD P p 0 ≤ 1024
+  -- process p's part of a cut, up to position x, where its section starts at word `at`
+  pub record View (P S : List ℕ) (p at x : ℕ) : Type 0 where
+    pub inside : 4 * (at + 3 + 3 * x) ≤ length t
+    pub small : x ≤ 1024
     pub all : history (decoded t) p ≡ recordsAt (word t) (at + 3) (word t at)
-    pub least : getD P p 0 ≤ word t at
-    pub here : part (decoded t) P p ≡ recordsAt (word t) (at + 3) (getD P p 0)
-    pub sent : getD S p 0 ≡ sends (recordsAt (word t) (at + 3) (getD P p 0))
+    pub least : x ≤ word t at
+    pub here : part (decoded t) P p ≡ recordsAt (word t) (at + 3) x
+    pub sent : getD S p 0 ≡ sends (recordsAt (word t) (at + 3) x)
 
-  pub view : (P S : List ℕ) → Counted (decoded t) P S → (p : ℕ) → p < n → {at : ℕ} → at ≡ start E p → View P S p at
-  view P S C p lt {at} i =
+  pub view : (P S : List ℕ) → Counted (decoded t) P S → (p : ℕ) → p < n → {at : ℕ} → at ≡ start E p
+      → {x : ℕ} → x ≡ getD P p 0 → View P S p at x
+  view P S C p lt {at} i {x} y =
       let H = section p lt i in
       let e = processes in
       let within = C .within p (omega arith) in
@@ -85,8 +88,8 @@ module _ (t : List ℕ) (b : Bytes t) {n E : ℕ} (L : Laid t n E) where
       let short = H .short in
       let most = H .most in
       let room = H .inside in
-      let here : part (decoded t) P p ≡ recordsAt (word t) (at + 3) (getD P p 0) =
-      ap (upto (getD P p 0)) (sym (H .events)) ∙ records-upto (word t) (at + 3) (getD P p 0) (word t at) (omega arith)
+      let here : part (decoded t) P p ≡ recordsAt (word t) (at + 3) x =
+      rw (← y, ← H .events) (records-upto (word t) (at + 3) x (word t at) (omega arith))
       in
       record {
         inside = omega arith;
@@ -96,6 +99,19 @@ module _ (t : List ℕ) (b : Bytes t) {n E : ℕ} (L : Laid t n E) where
         here = here;
         sent = C .counted p (omega arith) ∙ ap sends here;
       }
+
+  -- a position and the count of sends before it are small
+  pub small-counts : (p : ℕ) → p < n → {x k : ℕ} → x ≤ length (history (decoded t) p) → k ≡ sends (upto x (history (decoded t) p))
+      → (x ≤ 1024) × (k ≤ 1024)
+  small-counts p lt {x} le e =
+      let h = history (decoded t) p in
+      let H = section p lt refl in
+      let c = H .count in
+      let short = H .short in
+      let most = H .most in
+      let less = sends-older (upto-is-older x h) in
+      let all = sends-length h in
+      (omega arith, omega arith)
 
   -- ---- the latest permitted position
 
@@ -132,6 +148,12 @@ pub record Step (s : State) (P S P′ S′ : List ℕ) (n p : ℕ) (o : Event �
   pub falls : total P′ n + cond moves 1 0 ≤ total P n
   pub stays : moves ≡ false → (P ≡ P′) × (S ≡ S′)
 
+-- what is written for p, from position c to before record r, makes a step, and is small, so that sixteen bits hold it
+abbrev pub Written : (t P S : List ℕ) (n p at : ℕ) (o : Event → Bool) (c r : ℕ) → Type 0
+Written t P S n p at o c r =
+    (y k : ℕ) → y ≡ cond (ltb r c) (lastSaved (recordsAt (word t) (at + 3) r)) c → k ≡ sends (recordsAt (word t) (at + 3) y)
+    → Step (decoded t) P S (set P p y) (set S p k) n p o (ltb r c) × (y ≤ 1024) × (k ≤ 1024)
+
 module _ (t : List ℕ) (b : Bytes t) {n E : ℕ} (L : Laid t n E) (P S : List ℕ) (C : Counted (decoded t) P S) (p : ℕ) (lt : p < n) {at : ℕ} (i : at ≡ start E p)
     (o : Event → Bool) (fair : Fair (decoded t) P p o) where
   abbrev held : State
@@ -146,8 +168,8 @@ module _ (t : List ℕ) (b : Bytes t) {n E : ℕ} (L : Laid t n E) (P S : List �
   abbrev records : ℕ → History
   records = recordsAt (word t) (at + 3)
 
-  seen : View t b L P S p at
-  seen = view t b L P S C p lt i
+  seen : View t b L P S p at x
+  seen = view t b L P S C p lt i refl
 
   wide : (p < length P) × (p < length S) × (p < length held)
   wide = let a = C .positions in let d = C .sixteen in let c = L .3 in let e = processes t b L in (omega arith, omega arith, omega arith)
@@ -198,33 +220,28 @@ module _ (t : List ℕ) (b : Bytes t) {n E : ℕ} (L : Laid t n E) (P S : List �
         stays = λ z. (refl, refl);
       }
 
-  pub step : {r : ℕ} → r ≡ length (before o (records x)) → {P′ S′ : List ℕ} → P′ ≡ cond (ltb r x) (set P p (lastSaved (records r))) P
-      → S′ ≡ cond (ltb r x) (set S p (sends (records (lastSaved (records r))))) S → Step held P S P′ S′ n p o (ltb r x)
-  step {r} e {P′} {S′} a d = go (test (any o (records x)))
+  -- a process that stays is written as it was, which changes nothing
+  pub step : {c : ℕ} → c ≡ x → {r : ℕ} → r ≡ length (before o (records c)) → Written t P S n p at o c r
+  step {c} is {r} e y k a d =
+      let u = go (test (any o (records x))) in
+      let m = small (u .counted) in
+      rw is (u, m .0, m .1)
     where
-      go : Test (any o (records x)) → Step held P S P′ S′ n p o (ltb r x)
-      go (passes y) = let f = found y e in rw (a, d, f .0) (back (lastSaved (records r)) (f .1) y)
-      go (fails y) = rw (a, d, missed y e) (rest y)
+      small : Counted held (set P p y) (set S p k) → (y ≤ 1024) × (k ≤ 1024)
+      small D =
+          rw (getD-set-same P p y 0 (wide .0), getD-set-same S p k 0 (wide .1))
+          at (small-counts t b L p lt (D .within p (wide .2)) (D .counted p (wide .2)))
 
--- ---- what the functions give
-
--- a process that stays where it is
-pub back-none : (P Q S R : List ℕ) (m : Bool) {r x : ℕ} → x ≤ r
-    → (P ≡ cond (ltb r x) Q P) × (S ≡ cond (ltb r x) R S) × (m ≡ (m || ltb r x))
-back-none P Q S R m {r} {x} le = rw (le-ltb r x le) (refl, refl, or-none m)
-  where
-    or-none : (a : Bool) → a ≡ (a || false)
-    or-none true = refl
-    or-none false = refl
-
--- a process that is taken back to v, before which there are k sends
-pub back-some : (P S : List ℕ) (p : ℕ) (m : Bool) (f : ℕ → ℕ) {r x v u k : ℕ} → r < x → u ≡ v → k ≡ f u
-    → (set P p u ≡ cond (ltb r x) (set P p v) P) × (set S p k ≡ cond (ltb r x) (set S p (f v)) S) × (true ≡ (m || ltb r x))
-back-some P S p m f {r} {x} l e g = rw (lt-ltb r x l) (ap (set P p) e, ap (set S p) (g ∙ ap f e), or-some m)
-  where
-    or-some : (a : Bool) → true ≡ (a || true)
-    or-some true = refl
-    or-some false = refl
+      go : Test (any o (records x)) → Step held P S (set P p y) (set S p k) n p o (ltb r x)
+      go (passes z) =
+          let f = found z (rw is at e) in
+          let v : y ≡ lastSaved (records r) = rw (is, f .0) at a in
+          rw (d, f .0) (back y (v ∙ f .1) z)
+      go (fails z) =
+          let m = missed z (rw is at e) in
+          let v : y ≡ x = rw (is, m) at a in
+          let u : k ≡ getD S p 0 = d ∙ ap (λ (w : ℕ). sends (records w)) v ∙ sym (seen .sent) in
+          rw (u, v, m, set-getD P p 0, set-getD S p 0) (rest z)
 
 -- ---- the start
 
@@ -260,35 +277,91 @@ started-done mask s P S lp ls f = (
   },
 )
 
--- ---- sweeps
+-- ---- late receipts
 
-pub swept-next : (s : State) (P₀ P S P′ S′ : List ℕ) (m m′ : Bool) (n p : ℕ) {moves : Bool} → Swept s P₀ P S m n p
-    → Step s P S P′ S′ n p (late S) moves → m′ ≡ (m || moves) → Swept s P₀ P′ S′ m′ n (p + 1)
-swept-next s P₀ P S P′ S′ m m′ n p {moves} (C, l, f, none) u e = (
-  u .counted,
-  lowered-trans s P₀ P P′ l (u .lowers),
-  rw e (falls m moves f (u .falls)),
-  λ z q lt. settled (rw e at z) q lt (decEq q p),
-)
-  where
-    falls : (a b : Bool) → total P n + cond a 1 0 ≤ total P₀ n → total P′ n + cond b 1 0 ≤ total P n
-        → total P′ n + cond (a || b) 1 0 ≤ total P₀ n
-    falls true true x y = omega arith
-    falls true false x y = omega arith
-    falls false true x y = omega arith
-    falls false false x y = omega arith
+-- lowered from P₀ by turns that go round the n processes. p has the next one. The processes that had the last `stayed` turns, those below p
+-- and then those from n down, have no late receipt: none was moved since
+pub record Quiet (s : State) (P₀ P S : List ℕ) (n p stayed : ℕ) : Type 0 where
+  pub counted : Counted s P S
+  pub lowers : Lowered s P₀ P
+  pub turn : 0 < n → p < n
+  pub none : (q : ℕ) → q < n → (q < p → p ≤ q + stayed) → (p ≤ q → p + n ≤ q + stayed) → any (late S) (part s P q) ≡ false
 
-    settled : (m || moves) ≡ false → (q : ℕ) → q < p + 1 → Dec (q ≡ p) → any (late S′) (part s P′ q) ≡ false
-    settled z q lt d = rw (← u .stays (or-false m moves z .1) .1) (at d)
+pub quiet-start : (s : State) (P S : List ℕ) (n : ℕ) → Counted s P S → Quiet s P P S n 0 0
+quiet-start s P S n C =
+    record {
+      counted = C;
+      lowers = lowered-refl s P;
+      turn = λ l. l;
+      none = λ q lt a b. absurd (let x = b (omega arith) in omega arith);
+    }
+
+module _ {s : State} {P₀ P S : List ℕ} {n p stayed : ℕ} (Q : Quiet s P₀ P S n p stayed) where
+  pub quiet-done : n ≤ stayed → Settled s P₀ P S n
+  quiet-done le = (
+    Q .counted,
+    Q .lowers,
+    λ q lt. let l = Q .turn (omega arith) in Q .none q lt (λ a. omega arith) (λ a. omega arith),
+  )
+
+  module _ (lt : stayed < n) {P′ S′ : List ℕ} {moves : Bool} (u : Step s P S P′ S′ n p (late S) moves) {k : ℕ}
+      (e : k ≡ cond moves 0 (stayed + 1)) where
+    pub quiet-next : {j : ℕ} → j ≡ cond (ltb (p + 1) n) (p + 1) 0 → Quiet s P₀ P′ S′ n j k
+    quiet-next {j} i =
+        record {
+          counted = u .counted;
+          lowers = lowered-trans s P₀ P P′ (Q .lowers) (u .lowers);
+          turn = λ l. ⊎-elim (λ x. omega arith) (λ x. omega arith) next;
+          none = none (test moves);
+        }
       where
-        at : Dec (q ≡ p) → any (late S) (part s P′ q) ≡ false
-        at (yes i) = rw i (u .none)
-        at (no ne) = ap (any (late S)) (u .others q ne) ∙ none (or-false m moves z .0) q (omega arith)
+        -- the turn after p's
+        next : ((j ≡ p + 1) × (p + 1 < n)) ⊎ ((j ≡ 0) × (n ≡ p + 1))
+        next = go (test (ltb (p + 1) n))
+          where
+            go : Test (ltb (p + 1) n) → ((j ≡ p + 1) × (p + 1 < n)) ⊎ ((j ≡ 0) × (n ≡ p + 1))
+            go (passes x) = inl (rw x at i, ltb-true (p + 1) n x)
+            go (fails x) = inr (rw x at i, let l = Q .turn (omega arith) in let m = ltb-false (p + 1) n x in omega arith)
 
--- a sweep leaves less to do
-pub sweep-less : (m m′ : Bool) (x : ℕ) {y : ℕ} → m ≡ true → x + cond m′ 1 0 ≤ y → cond m′ (x + 1) 0 < cond m (y + 1) 0
-sweep-less m true x e l = rw e (omega arith)
-sweep-less m false x e l = rw e (omega arith)
+        none : Test moves → (q : ℕ) → q < n → (q < j → j ≤ q + k) → (j ≤ q → j + n ≤ q + k) → any (late S′) (part s P′ q) ≡ false
+        none (passes m) q lq a b = absurd (go (decLt q j))
+          where
+            z : k ≡ 0
+            z = rw m at e
+
+            go : Dec (q < j) → ⊥
+            go (yes l) = let x = a l in let y = z in omega arith
+            go (no l) = let x = b (omega arith) in let y = z in omega arith
+        none (fails m) q lq a b = rw (← u .stays m .1) (at (decEq q p))
+          where
+            one : k ≡ stayed + 1
+            one = rw m at e
+
+            at : Dec (q ≡ p) → any (late S) (part s P′ q) ≡ false
+            at (yes x) = rw x (u .none)
+            at (no ne) =
+                let o = one in
+                ap (any (late S)) (u .others q ne) ∙ Q .none q lq
+                (λ l. ⊎-elim (λ x. let y = a (omega arith) in omega arith) (λ x. let y = b (omega arith) in omega arith) next)
+                (λ l. ⊎-elim (λ x. let y = b (omega arith) in omega arith) (λ x. absurd (omega arith)) next)
+
+    -- a turn leaves less to do: the positions fall, or one more has stayed
+    pub quiet-less : n ≤ 16 → total P′ n * 17 + (16 - k) < total P n * 17 + (16 - stayed)
+    quiet-less le = go moves e (u .falls)
+      where
+        go : (b : Bool) → k ≡ cond b 0 (stayed + 1) → total P′ n + cond b 1 0 ≤ total P n
+            → total P′ n * 17 + (16 - k) < total P n * 17 + (16 - stayed)
+        go true x y = omega arith
+        go false x y = omega arith
+
+pub late-step : (t : List ℕ) (b : Bytes t) {n E : ℕ} (L : Laid t n E) {P₀ P S : List ℕ} {p stayed : ℕ} → Quiet (decoded t) P₀ P S n p stayed
+    → stayed < n → {at : ℕ} → at ≡ start E p → {c : ℕ} → c ≡ getD P p 0
+    → {r : ℕ} → r ≡ length (before (late S) (recordsAt (word t) (at + 3) c)) → Written t P S n p at (late S) c r
+late-step t b L {P} {S} {p} Q lt i =
+    let C = Q .counted in
+    let e = processes t b L in
+    let m = L .3 in
+    step t b L P S C p (Q .turn (omega arith)) i (late S) (late-fair (decoded t) P S C (omega arith) p)
 
 -- ---- pruning
 

@@ -2,7 +2,7 @@
 use mathlib.Core.Path.{_≡_}
 use mathlib.Core.Bool.{Bool, true, false, not, cond}
 use mathlib.Core.List.{List}
-use Prim.Native.Nat.{ℕ, zero, suc, _+_, _*_, _≤_, _<_}
+use Prim.Native.Nat.{ℕ, _+_, _*_, _≤_, _<_}
 use lib.Dec.{leb}
 use lib.ListN.{length, getD}
 use Rattle.xdr.specs.Words.{word}
@@ -48,24 +48,13 @@ NoneLost s position p = (q : ℕ) → q < p → any (lost s q) (part s position 
 abbrev pub NoneLate : State → List ℕ → List ℕ → ℕ → Type 0
 NoneLate s position counts p = (q : ℕ) → q < p → any (late counts) (part s position q) ≡ false
 
--- the sum of the first p positions
-abbrev pub total : List ℕ → ℕ → ℕ
-total position zero = 0
-total position (suc p) = total position p + getD position p 0
-
 -- ---- what the functions leave of a cut that was at `from`
 
 -- pruned at the first p processes
 abbrev pub Pruned : State → List ℕ → List ℕ → List ℕ → ℕ → Type 0
 Pruned s from position counts p = Counted s position counts × Lowered s from position × NoneLost s position p
 
--- swept at the first p processes of n; where none has moved, none of these has a late receipt
-abbrev pub Swept : State → List ℕ → List ℕ → List ℕ → Bool → ℕ → ℕ → Type 0
-Swept s from position counts moved n p =
-    Counted s position counts × Lowered s from position × (total position n + cond moved 1 0 ≤ total from n)
-    × ((moved ≡ false) → NoneLate s position counts p)
-
--- swept until none moves
+-- settled: none of the first n processes has a late receipt
 abbrev pub Settled : State → List ℕ → List ℕ → List ℕ → ℕ → Type 0
 Settled s from position counts n = Counted s position counts × Lowered s from position × NoneLate s position counts n
 

@@ -2,23 +2,22 @@
 //
 // Every process starts at its latest permitted position. A receipt whose send is not in the table, or goes to another process, is an
 // orphan in every cut: one pass takes each process back to before its first one. After that send k of process q is in the cut exactly
-// when q's part has at least k sends, so that a sweep compares numbers and searches nothing.
+// when q's part has at least k sends, so that a scan for late receipts compares numbers and searches nothing.
 ghost use mathlib.Core.Path.{_≡_};
-ghost use mathlib.Core.Bool.{cond, _||_};
+ghost use mathlib.Core.Bool.{cond};
 ghost use Prim.Native.Nat.{_+_, _*_, _≤_, _<_};
 ghost use lib.Dec.{ltb};
-ghost use lib.ListN.{length, getD, set};
+ghost use lib.ListN.{length};
 ghost use Rattle.xdr.specs.Words.{word};
 ghost use Rattle.rules.specs.Records.{history, sends as sendsOf};
 ghost use Rattle.rules.specs.Table.{recordsAt, decoded};
 ghost use Rattle.rules.specs.Lines.{upto, failed, lastSaved, top as topOf};
-ghost use Rattle.lowering.specs.Lowering.{Laid, Counted, Over, Pruned, Swept, Settled, Noted, Blank};
+ghost use Rattle.lowering.specs.Lowering.{Laid, Counted, Over, Pruned, Settled, Noted, Blank};
 
-// Positions of sixteen processes, of which the first n count, with the counts of sends before them, and whether any has moved.
+// Positions of sixteen processes, of which the first n count, and how many sends come before each. It goes in and out by value.
 pub struct Cut {
-    pub position: [usize; 16],
-    pub sends: [usize; 16],
-    pub moved: bool,
+    pub position: [u16; 16],
+    pub sends: [u16; 16],
 }
 
 // ---- the start
@@ -53,44 +52,35 @@ pub fn tops(t: &[u8], n: usize, e: usize, mask: u32) -> Cut
     requires { ⌜ Laid (now t) n e ⌝ }
     ensures { λ r. ⌜ Counted (decoded (now (t .entry))) (r .position) (r .sends) × Over mask (decoded (now (t .entry))) (r .position) ⌝ }
 {
-    let mut position = [0usize; 16];
-    let mut sends = [0usize; 16];
+    let mut position = [0u16; 16];
+    let mut sends = [0u16; 16];
     let mut p: usize = 0;
     while p < n {
         let r = top(t, e, p, bit(mask, p as u32));
-        position[p] = r.position;
-        sends[p] = r.sends;
+        position[p] = r.position as u16;
+        sends[p] = r.sends as u16;
         p += 1;
     }
     Cut {
         position: position,
         sends: sends,
-        moved: false,
     }
 }
 
 // ---- one process
 
-// Process p, whose records start at word `at`, taken back to the latest saved position that is at most r, if it is above r.
-fn back(t: &[u8], at: usize, p: usize, cut: Cut, r: usize) -> Cut
-    requires { ⌜ (p < 16) × (getD (cut .position) p 0 ≤ 1024) × (4 * (at + 3 * getD (cut .position) p 0) ≤ length (now t)) × (getD (cut .sends) p 0 ≡ sendsOf (recordsAt (word (now t)) at (getD (cut .position) p 0))) ⌝ }
-    ensures { λ x. ⌜ (x .position ≡ cond (ltb r (getD (cut .position) p 0)) (set (cut .position) p (lastSaved (recordsAt (word (now (t .entry))) at r))) (cut .position)) × (x .sends ≡ cond (ltb r (getD (cut .position) p 0)) (set (cut .sends) p (sendsOf (recordsAt (word (now (t .entry))) at (lastSaved (recordsAt (word (now (t .entry))) at r))))) (cut .sends)) × (x .moved ≡ (cut .moved || ltb r (getD (cut .position) p 0))) ⌝ }
+// From position c, before which there are k sends, back to the latest saved position that is at most r, if c is above r.
+fn back(t: &[u8], at: usize, c: usize, k: usize, r: usize) -> cuts::Part
+    requires { ⌜ (c ≤ 1024) × (4 * (at + 3 * c) ≤ length (now t)) × (k ≡ sendsOf (recordsAt (word (now t)) at c)) ⌝ }
+    ensures { λ x. ⌜ (x .position ≡ cond (ltb r c) (lastSaved (recordsAt (word (now (t .entry))) at r)) c) × (x .sends ≡ sendsOf (recordsAt (word (now (t .entry))) at (x .position))) ⌝ }
 {
-    let mut position = cut.position;
-    let mut sends = cut.sends;
-    let c = position[p];
-    let k = sends[p];
     if c <= r {
-        return cut;
+        return cuts::Part {
+            position: c,
+            sends: k,
+        };
     }
-    let x = cuts::back_to(t, at, c, k, r);
-    position[p] = x.position;
-    sends[p] = x.sends;
-    Cut {
-        position: position,
-        sends: sends,
-        moved: true,
-    }
+    cuts::back_to(t, at, c, k, r)
 }
 
 // ---- receipts that are orphans in every cut
@@ -113,16 +103,22 @@ fn prune(t: &[u8], n: usize, e: usize, cut: Cut, to: &[u8]) -> Cut
     requires { ⌜ Laid (now t) n e × (n * e < length (now to)) × Noted (decoded (now t)) e (now to) n × Counted (decoded (now t)) (cut .position) (cut .sends) ⌝ }
     ensures { λ r. ⌜ Pruned (decoded (now (t .entry))) (cut .position) (r .position) (r .sends) n ⌝ }
 {
-    let mut c = cut;
+    let mut position = cut.position;
+    let mut sends = cut.sends;
     let mut p: usize = 0;
     while p < n {
         let at = layout::start(e, p) + 3;
-        let position = c.position;
-        let r = cuts::first_unsent(t, at, position[p], e, p as u8, to);
-        c = back(t, at, p, c, r);
+        let c = cuts::wide(position[p]);
+        let r = cuts::first_unsent(t, at, c, e, p as u8, to);
+        let x = back(t, at, c, cuts::wide(sends[p]), r);
+        position[p] = x.position as u16;
+        sends[p] = x.sends as u16;
         p += 1;
     }
-    c
+    Cut {
+        position: position,
+        sends: sends,
+    }
 }
 
 // The same; `to` is room for the notes.
@@ -147,36 +143,29 @@ pub fn pruned(t: &[u8], n: usize, e: usize, cut: Cut) -> Cut
     pruned_with(t, n, e, cut, &mut many)
 }
 
-// ---- sweeps
+// ---- late receipts
 
-// Every process before its first late receipt.
-fn sweep(t: &[u8], n: usize, e: usize, cut: Cut) -> Cut
-    requires { ⌜ Laid (now t) n e × Counted (decoded (now t)) (cut .position) (cut .sends) ⌝ }
-    ensures { λ r. ⌜ Swept (decoded (now (t .entry))) (cut .position) (r .position) (r .sends) (r .moved) n n ⌝ }
-{
-    let mut c = cut;
-    c.moved = false;
-    let mut p: usize = 0;
-    while p < n {
-        let at = layout::start(e, p) + 3;
-        let position = c.position;
-        let sends = c.sends;
-        let r = cuts::first_late(t, at, position[p], sends);
-        c = back(t, at, p, c, r);
-        p += 1;
-    }
-    c
-}
-
-// Sweeps until one moves no process.
+// Takes one process after the other before its first late receipt, round and round, until n in a row have stayed.
 pub fn settled(t: &[u8], n: usize, e: usize, cut: Cut) -> Cut
     requires { ⌜ Laid (now t) n e × Counted (decoded (now t)) (cut .position) (cut .sends) ⌝ }
     ensures { λ r. ⌜ Settled (decoded (now (t .entry))) (cut .position) (r .position) (r .sends) n ⌝ }
 {
-    let mut c = cut;
-    c.moved = true;
-    while c.moved {
-        c = sweep(t, n, e, c);
+    let mut position = cut.position;
+    let mut sends = cut.sends;
+    let mut stayed: usize = 0;
+    let mut p: usize = 0;
+    while stayed < n {
+        let at = layout::start(e, p) + 3;
+        let c = cuts::wide(position[p]);
+        let r = cuts::first_late(t, at, c, &sends);
+        let x = back(t, at, c, cuts::wide(sends[p]), r);
+        position[p] = x.position as u16;
+        sends[p] = x.sends as u16;
+        stayed = layout::pick(r < c, 0, stayed + 1);
+        p = layout::pick(p + 1 < n, p + 1, 0);
     }
-    c
+    Cut {
+        position: position,
+        sends: sends,
+    }
 }

@@ -35,11 +35,14 @@ size-requires c κs = search needs
 size-requires-2 : tie.Need-size-requires-2 Inv-loop μ-loop
 size-requires-2 c κs = search needs
 
-mul-if1 : tie.Need-mul-if1 Inv-loop μ-loop
-mul-if1 c = search needs
+mul-wide : tie.Need-mul-wide Inv-loop μ-loop
+mul-wide c = search needs
 
-array-read-if1 : tie.Need-array-read-if1 Inv-loop μ-loop
-array-read-if1 c = search needs
+shared-slice-read-wide : tie.Need-shared-slice-read-wide Inv-loop μ-loop
+shared-slice-read-wide c = search needs
+
+wide-requires : tie.Need-wide-requires Inv-loop μ-loop
+wide-requires c κs = search needs
 
 add-size-2 : tie.Need-add-size-2 Inv-loop μ-loop
 add-size-2 c = search needs
@@ -49,15 +52,17 @@ size-requires-3 c κs = search needs
 
 returns : tie.Need-returns Inv-loop μ-loop
 returns c =
-    let c3 = c .before .before .before in
-    let c4 = c3 .before in
+    let c4 = c .before .before .before .before in
     let c5 = c4 .before in
-    let c7 = c5 .before .before in
-    let a = c7 .args in
+    let c6 = c5 .before in
+    let c7 = c6 .before in
+    let c10 = c7 .before .before .before in
+    let a = c10 .args in
     let w = word (a .t .now) in
-    let s = c5 .loop in
-    first-found w (a .at) (late (a .t4)) (c4 .loop-test .taken) (s .inv .0)
-    (sym (late-event w (a .at) (a .t4) (s .i) (c .before .before .size2 .ensures .0) (c3 .size .ensures .0) (c .before .size3 .ensures .0)) ∙ c .if1 .taken)
+    let s = c7 .loop in
+    let e = late-event w (a .at) (a .sends .now) (s .i) (c4 .size2 .ensures .0) (c5 .size .ensures .0) (c .before .size3 .ensures .0)
+    (c .before .before .wide .ensures) in
+    first-found w (a .at) (late (a .sends .now)) (c6 .loop-test .taken) (s .inv .0) (sym e ∙ c .if1 .taken)
 
 add-i : tie.Need-add-i Inv-loop μ-loop
 add-i c = search needs
@@ -67,23 +72,23 @@ loop-less c = search needs
 
 loop-again : tie.Need-loop-again Inv-loop μ-loop
 loop-again c =
-    let c3 = c .before .before .before in
-    let c5 = c3 .before .before in
+    let c4 = c .before .before .before .before in
+    let c5 = c4 .before in
     let c7 = c5 .before .before in
-    let a = c7 .args in
+    let c10 = c7 .before .before .before in
+    let a = c10 .args in
     let w = word (a .t .now) in
-    let s = c5 .loop in (
-      none-next w (a .at) (late (a .t4)) (s .i) (s .inv .0)
-          (sym (late-event w (a .at) (a .t4) (s .i) (c .before .before .size2 .ensures .0) (c3 .size .ensures .0) (c .before .size3 .ensures .0)) ∙ c .if1 .left),
-      search needs,
-    )
+    let s = c7 .loop in
+    let e = late-event w (a .at) (a .sends .now) (s .i) (c4 .size2 .ensures .0) (c5 .size .ensures .0) (c .before .size3 .ensures .0)
+    (c .before .before .wide .ensures) in
+    (none-next w (a .at) (late (a .sends .now)) (s .i) (s .inv .0) (sym e ∙ c .if1 .left), search needs)
 
 returns-2 : tie.Need-returns-2 Inv-loop μ-loop
 returns-2 c =
-    let c3 = c .before .before .before in
-    let a = c3 .args in
+    let c4 = c .before .before .before .before in
+    let a = c4 .args in
     let h : c .before .loop .i ≡ a .c = omega arith in
-    first-none (word (a .t .now)) (a .at) (late (a .t4)) h (c .before .loop .inv .0)
+    first-none (word (a .t .now)) (a .at) (late (a .sends .now)) h (c .before .loop .inv .0)
 
 pub first-late-spec : {M : Type 1} → statement M
 first-late-spec =
@@ -97,8 +102,9 @@ first-late-spec =
     add-size
     size-requires
     size-requires-2
-    mul-if1
-    array-read-if1
+    mul-wide
+    shared-slice-read-wide
+    wide-requires
     add-size-2
     size-requires-3
     returns

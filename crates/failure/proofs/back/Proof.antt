@@ -30,11 +30,14 @@ size-requires c κs =
     (c .before .loop-test .taken) (c .start .ensures .0) in
     omega (arith, H .inside)
 
-mul-pick : tie.Need-mul-pick Inv-loop μ-loop
-mul-pick c = search needs
+mul-wide : tie.Need-mul-wide Inv-loop μ-loop
+mul-wide c = search needs
 
-array-read-pick : tie.Need-array-read-pick Inv-loop μ-loop
-array-read-pick c = search needs
+array-read-wide : tie.Need-array-read-wide Inv-loop μ-loop
+array-read-wide c = search needs
+
+wide-requires : tie.Need-wide-requires Inv-loop μ-loop
+wide-requires c κs = search needs
 
 pick-requires : tie.Need-pick-requires Inv-loop μ-loop
 pick-requires c κs = search needs
@@ -45,10 +48,11 @@ add-mask c =
     let c4 = c3 .before in
     let c5 = c4 .before in
     let c6 = c5 .before in
-    let a = c6 .args in
-    let s = c4 .loop in
-    let F = found-next (a .t .now) (λ i. omega (arith, c5 .shared-slice-known .given i)) (c6 .pre) (a .t4) (s .p)
-    (c3 .loop-test .taken) (c .before .before .start .ensures .0) (c .before .size .ensures .0) (s .inv .0) (c .pick .ensures) in
+    let c7 = c6 .before in
+    let a = c7 .args in
+    let s = c5 .loop in
+    let F = found-next (a .t .now) (λ i. omega (arith, c6 .shared-slice-known .given i)) (c7 .pre) (a .t4) (s .p) (c4 .loop-test .taken)
+    (c3 .start .ensures .0) (c .before .before .size .ensures .0) (s .inv .0) (c .before .wide .ensures) (c .pick .ensures) in
     omega (arith, F .2, F .3)
 
 mul-bit : tie.Need-mul-bit Inv-loop μ-loop
@@ -66,10 +70,11 @@ loop-again c =
     let c4 = c3 .before in
     let c5 = c4 .before in
     let c6 = c5 .before in
-    let a = c6 .args in
-    let s = c4 .loop in (
-      found-next (a .t .now) (λ i. omega (arith, c5 .shared-slice-known .given i)) (c6 .pre) (a .t4) (s .p) (c3 .loop-test .taken)
-          (c .before .before .start .ensures .0) (c .before .size .ensures .0) (s .inv .0) (c .pick .ensures),
+    let c7 = c6 .before in
+    let a = c7 .args in
+    let s = c5 .loop in (
+      found-next (a .t .now) (λ i. omega (arith, c6 .shared-slice-known .given i)) (c7 .pre) (a .t4) (s .p) (c4 .loop-test .taken)
+          (c3 .start .ensures .0) (c .before .before .size .ensures .0) (s .inv .0) (c .before .wide .ensures) (c .pick .ensures),
       omega arith,
     )
 
@@ -93,8 +98,9 @@ back-spec =
     loop-holds
     start-requires
     size-requires
-    mul-pick
-    array-read-pick
+    mul-wide
+    array-read-wide
+    wide-requires
     pick-requires
     add-mask
     mul-bit
