@@ -12,7 +12,7 @@ $(error PREFIX is to be one path without spaces)
 endif
 into = $(DESTDIR)$(abspath $(PREFIX))
 
-.PHONY: run program run-c run-host lib install uninstall fuzz sizes test clean
+.PHONY: run program run-c run-host lib install uninstall fuzz sizes bench test clean
 
 # runs the text program on a file of calls and prints calls and answers side by side; CALLS=FILE names another file
 run: program
@@ -59,6 +59,10 @@ fuzz: lib
 # what the archive takes of a controller's memory
 sizes: lib
 	@tests/sizes.sh
+
+# times each call beside the same call in plain C, prints the tables and writes bench/RESULTS.md
+bench: lib
+	@tests/bench.sh
 
 # proves every crate from nothing, tries the must-fail edits, and runs the tests from outside
 test:

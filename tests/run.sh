@@ -43,8 +43,8 @@ cargo_tests() {
     failed=$((failed + f))
 }
 
-reference_unchanged() {
-    (cd tests && sha256sum --check --quiet reference.sha256)
+vendored_unchanged() {
+    (cd tests && sha256sum --check --quiet vendored.sha256)
 }
 
 # vectors_current NAME WORDS..: the generator, given these words, prints the vectors' file NAME
@@ -85,9 +85,11 @@ check "wrong hosts: ledgers differ" wrong_hosts
 check "hosts under sanitizers" sanitized_hosts
 check "an engine that oversteps its areas is caught" tests/overruns.sh
 check "ten seconds of random calls under sanitizers" tests/fuzz.sh 10
+check "no call on the largest table takes twice as long as plain C" tests/bench.sh --short
+check "the bench refuses engines that are slow or wrong" tests/bench.sh --faults
 check "the text program is there" program_made
 check "the examples are answered as written" examples_answered
-check "the reference engine is as it was taken over" reference_unchanged
+check "the reference engine and the peer are as they were taken over" vendored_unchanged
 check "the vectors are what the reference engine gives" vectors_current Vectors.antt
 check "the text vectors are what the reference engine gives" vectors_current TextVectors.antt text
 cargo_tests reference --manifest-path tests/reference/Cargo.toml

@@ -29,7 +29,7 @@ static const struct {
     size_t limit;
 } calls[] = {
     {"ckpt_fresh", fresh, 511},   {"ckpt_checkpoint", checkpoint, 511}, {"ckpt_send", send, 511},
-    {"ckpt_receipt", receipt, 511}, {"ckpt_line", line, 511},             {"ckpt_failed", failed, 19 * 1024},
+    {"ckpt_receipt", receipt, 511}, {"ckpt_line", line, 511},             {"ckpt_failed", failed, 17 * 1024},
 };
 enum { CALLS = sizeof calls / sizeof calls[0] };
 

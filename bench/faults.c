@@ -1,0 +1,30 @@
+/* Engines that the bench must refuse (tests/bench.sh --faults): ckpt_send and ckpt_failed of the archive, wrapped by the linker.
+   -DCHECKS=N makes ckpt_send check the table N times more, -DAFTER=.. is what it does last, -DREPEATS=N makes ckpt_failed look for
+   its line N times more. Without these they do what the archive's do. */
+#include "../include/ckpt.h"
+
+uint32_t __real_ckpt_send(uint8_t *table, size_t table_len, uint8_t *area, size_t area_len, uint32_t p, uint32_t q);
+uint32_t __real_ckpt_failed(const uint8_t *table, size_t table_len, uint8_t *area, size_t area_len, uint32_t mask);
+
+#ifndef CHECKS
+#define CHECKS 0
+#endif
+#ifndef AFTER
+#define AFTER (void)0
+#endif
+#ifndef REPEATS
+#define REPEATS 0
+#endif
+
+uint32_t __wrap_ckpt_send(uint8_t *table, size_t table_len, uint8_t *area, size_t area_len, uint32_t p, uint32_t q) {
+    /* An area of no bytes stops a line once the table is checked. */
+    for (int left = (int)(CHECKS); left > 0; left--) ckpt_line(table, table_len, area, 0, 0);
+    uint32_t returned = __real_ckpt_send(table, table_len, area, area_len, p, q);
+    AFTER;
+    return returned;
+}
+
+uint32_t __wrap_ckpt_failed(const uint8_t *table, size_t table_len, uint8_t *area, size_t area_len, uint32_t mask) {
+    for (int left = REPEATS; left > 0; left--) __real_ckpt_failed(table, table_len, area, area_len, mask);
+    return __real_ckpt_failed(table, table_len, area, area_len, mask);
+}
