@@ -11,7 +11,7 @@
    - Table and area do not overlap. Nobody else writes them during a call, nor reads what the call may write.
    - A null pointer with length 0 is an area of no bytes: no call looks at it, and its length stops the call, if nothing before it
      did. A null pointer with any other length is an error that no call can see.
-   - ckpt_failed needs 19 KiB of stack, every other call less than 512 bytes.
+   - ckpt_failed needs 17 KiB of stack, every other call less than 512 bytes.
 
    Calls keep nothing of their own. They may run at the same time on different tables, and ckpt_line and ckpt_failed on one table
    too, each with its own area. A call that is cut short, as by a power cut, may leave a part of what it writes: who keeps tables in
