@@ -234,7 +234,8 @@ fn fronts(t: &[u8], n: usize, e: usize, room: &[usize], floor: &[usize], masks: 
     true
 }
 
-// Whether all n sections are well laid.
+// Whether all n sections are well laid. The lists are those of layout/specs/Marks.antt; they are made before the first loop, so that the
+// second does not read what was written right before.
 fn sections_ok(t: &[u8], n: usize, e: usize) -> bool
     requires { ⌜ (n ≤ 16) × (e ≤ 1024) × (4 * startOf e n ≤ length (now t)) ⌝ }
     ensures { λ r. ⌜ r ≡ sectionsOk n e (word (now (t .entry))) n ⌝ }
