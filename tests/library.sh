@@ -17,13 +17,13 @@ header_in_cpp17() {
         "$made/header_cpp"
 }
 
-# the archive exports the header's calls and nothing else, and asks for nothing but these four of C's functions
+# the archive exports the header's calls and nothing else, and asks of C for nothing but memset
 symbols() {
     local asked
     diff <(sed -n 's/^uint32_t \(ckpt_[a-z]*\)(.*/\1/p' include/ckpt.h | sort) \
         <(nm --extern-only --defined-only "$lib" | awk 'NF == 3 { print $3 }' | sort) || return 1
     asked=$(nm --undefined-only "$lib" | awk 'NF == 2 { print $2 }') || return 1
-    ! grep -vxE 'memset|memcpy|memmove|memcmp' <<<"$asked"
+    ! grep -vx memset <<<"$asked"
 }
 
 # installed_in PREFIX: what `make install` puts into an empty folder is enough to build and run the hosts, and `make uninstall`
@@ -52,7 +52,7 @@ installed() {
 }
 
 freestanding() {
-    # The loops of its own memcpy and memset must not become calls of themselves.
+    # The loop of its own memset must not become a call of itself.
     host_of tests/c/freestanding.c "$made/freestanding" -O2 -ffreestanding -nostdlib -static -fno-tree-loop-distribute-patterns &&
         "$made/freestanding"
 }
