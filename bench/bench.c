@@ -45,7 +45,7 @@ static const struct engine {
 
 /* A reading of the clock takes as long as a call on a small table. So many small tables lie side by side and are called one after the
    other between two readings. Each is drawn for itself: a processor learns the branches that one table of nine records takes by
-   heart, and no host calls twice on the same table. Of a larger one there is one. */
+   heart, and a host's table changes from step to step. Of a larger one there is one. */
 #define SMALL_TABLES 64
 #define SMALL 512
 

@@ -4,11 +4,11 @@ use mathlib.Core.Logic.{_≢_}
 use mathlib.Core.List.{List, [], _∷_}
 use mathlib.Core.Bool.{Bool, true, false, _&&_, and-true, and-false, and-assoc, and-comm, and-eq-true-iff, false≢true}
 use Prim.Native.Nat.{ℕ, zero, suc, _+_, _-_, _*_, _/_, _≤_, _<_}
-use native.Mathlib.Nat.{add-zero, zero-mul, mul-le-mul-left, mul-le-mul-right}
+use native.Mathlib.Nat.{add-zero, mul-le-mul-right}
 use native.Mathlib.Numerals.{add-one}
 use lib.Dec.{eqb, leb}
 use lib.Bits.{bitAnd, bitOr, bitXor, or-shifted}
-use lib.ListN.{length, getD, replicate}
+use lib.ListN.{length, replicate}
 use native.Mathlib.Omega.{arith}
 use native.Mathlib.Decide.{decLt}
 use borrow.Author.Tests.{eqb-true, eqb-false, leb-true, le-leb, lt-leb, lt-ltb, le-ltb, eq-eqb, ne-eqb}
@@ -16,7 +16,6 @@ use Rattle.xdr.specs.Words.{word, putWords}
 use Rattle.rules.specs.Records.{number, sends}
 use Rattle.rules.specs.Table.{inRange, size, start, recordsAt, recordsOk, zerosAt, sectionOk, sectionsOk, wellLaid}
 use Rattle.layout.specs.Marks.{clear}
-use Rattle.layout.specs.Zeros.{zeroBytes}
 use Rattle.layout.specs.Sections.{every, rearOk, frontOk}
 use Rattle.layout.proofs.Marks.{interchange, or-zero, xor-zero, marks-zero}
 use Rattle.rules.specs.Calls.{outcome, first, tableRows, freshOn}
@@ -26,134 +25,60 @@ use Rattle.theorems.proofs.Histories.{Test, passes, fails, test}
 
 -- ---- unused words
 
--- a number of two digits is 0 exactly when both are
-digits-zero : (x y m : ℕ) → 1 ≤ m → eqb (x + y * m) 0 ≡ (eqb x 0 && eqb y 0)
-digits-zero x y m l = go (test (eqb x 0)) (test (eqb y 0))
-  where
-    more : y * 1 ≤ y * m
-    more = mul-le-mul-left y l
+module _ (w : ℕ → ℕ) where
+  pub zeros-two : (i : ℕ) {z : Bool} → z ≡ (eqb (w i) 0 && eqb (w (i + 1)) 0) → z ≡ zerosAt w i 2
+  zeros-two i e = rw (e, add-zero i)
 
-    go : Test (eqb x 0) → Test (eqb y 0) → eqb (x + y * m) 0 ≡ (eqb x 0 && eqb y 0)
-    go (passes a) (passes b) = rw (a, b, eqb-true x 0 a, eqb-true y 0 b, zero-mul m)
-    go (passes a) (fails b) = let n = eqb-false y 0 b in rw (a, b, ne-eqb (x + y * m) 0 (omega (arith, more)))
-    go (fails a) b = let n = eqb-false x 0 a in rw (a, ne-eqb (x + y * m) 0 (omega arith))
+  -- words in two parts
+  zeros-parts : (i m k : ℕ) → zerosAt w i (m + k) ≡ (zerosAt w i m && zerosAt w (i + m) k)
+  zeros-parts i m zero = rw (add-zero m) (sym (and-true (zerosAt w i m)))
+  zeros-parts i m (suc k) =
+      let a : m + suc k ≡ suc (m + k) = omega arith in
+      let b : i + (m + k) ≡ i + m + k = omega arith in
+      rw (a, b, zeros-parts i m k) (and-assoc (zerosAt w i m) (zerosAt w (i + m) k) (eqb (w (i + m + k)) 0))
 
-pub eight-zero : (t : List ℕ) (i : ℕ) {r : ℕ}
-    → r ≡ getD t i 0 + getD t (i + 1) 0 * 256 + getD t (i + 2) 0 * 65536 + getD t (i + 3) 0 * 16777216 + getD t (i + 4) 0 * 4294967296
-    + getD t (i + 5) 0 * 1099511627776 + getD t (i + 6) 0 * 281474976710656 + getD t (i + 7) 0 * 72057594037927936
-    → eqb r 0 ≡ zeroBytes t i 8
-eight-zero t i e =
-    rw (e, add-zero i)
-    (digits (getD t i 0) (getD t (i + 1) 0) (getD t (i + 2) 0) (getD t (i + 3) 0) (getD t (i + 4) 0) (getD t (i + 5) 0) (getD t (i + 6) 0) (getD t (i + 7) 0))
-  where
-    digits : (a b c d e f g h : ℕ)
-        → eqb (a + b * 256 + c * 65536 + d * 16777216 + e * 4294967296 + f * 1099511627776 + g * 281474976710656 + h * 72057594037927936) 0
-        ≡ (eqb a 0 && eqb b 0 && eqb c 0 && eqb d 0 && eqb e 0 && eqb f 0 && eqb g 0 && eqb h 0)
-    digits a b c d e f g h =
-        let s = a + b * 256 in
-        let u = s + c * 65536 in
-        let v = u + d * 16777216 in
-        let w = v + e * 4294967296 in
-        let x = w + f * 1099511627776 in
-        let y = x + g * 281474976710656 in
-        rw (
-          digits-zero y h 72057594037927936 (omega arith),
-          digits-zero x g 281474976710656 (omega arith),
-          digits-zero w f 1099511627776 (omega arith),
-          digits-zero v e 4294967296 (omega arith),
-          digits-zero u d 16777216 (omega arith),
-          digits-zero s c 65536 (omega arith),
-          digits-zero a b 256 (omega arith),
-        )
+  -- a pair more
+  pub zeros-next : (i j m x y : ℕ) → eqb x 0 ≡ (zerosAt w j 2 && zerosAt w i (2 * m)) → eqb y 0 ≡ (eqb (w (i + 2 * m)) 0 && eqb (w (i + 2 * m + 1)) 0)
+      → eqb (bitOr x y) 0 ≡ (zerosAt w j 2 && zerosAt w i (2 * (m + 1)))
+  zeros-next i j m x y e f =
+      let a : 2 * (m + 1) ≡ 2 * m + 2 = omega arith in
+      or-zero x y
+      ∙ rw (e, zeros-two (i + 2 * m) f, a, zeros-parts i (2 * m) 2) (and-assoc (zerosAt w j 2) (zerosAt w i (2 * m)) (zerosAt w (i + 2 * m) 2))
 
--- bytes in two parts
-zeros-parts : (t : List ℕ) (i m k : ℕ) → zeroBytes t i (m + k) ≡ (zeroBytes t i m && zeroBytes t (i + m) k)
-zeros-parts t i m zero = rw (add-zero m) (sym (and-true (zeroBytes t i m)))
-zeros-parts t i m (suc k) =
-    let a : m + suc k ≡ suc (m + k) = omega arith in
-    let b : i + (m + k) ≡ i + m + k = omega arith in
-    rw (a, b, zeros-parts t i m k) (and-assoc (zeroBytes t i m) (zeroBytes t (i + m) k) (eqb (getD t (i + m + k) 0) 0))
+  -- the last pair and as many pairs as there are from the first on are all words
+  pub zeros-all : (i j m : ℕ) → i + 2 ≤ j → m ≡ (j - i) / 2 → (zerosAt w (j - 2) 2 && zerosAt w i (2 * m)) ≡ zerosAt w i (j - i)
+  zeros-all i j m l e =
+      let r = j - i - 2 * m in
+      let a : j - i ≡ 2 * m + r = omega arith in
+      let b : 2 ≡ 2 - r + r = omega arith in
+      let c : j - 2 + (2 - r) ≡ i + 2 * m = omega arith in
+      let d : 2 * m ≡ 2 * m - (2 - r) + (2 - r) = omega arith in
+      let f : i + (2 * m - (2 - r)) ≡ j - 2 = omega arith in
+      let tail : zerosAt w (j - 2) 2 ≡ (zerosAt w (j - 2) (2 - r) && zerosAt w (i + 2 * m) r) =
+      ap (zerosAt w (j - 2)) b ∙ zeros-parts (j - 2) (2 - r) r ∙ ap (λ (k : ℕ). zerosAt w (j - 2) (2 - r) && zerosAt w k r) c
+      in
+      let head : zerosAt w i (2 * m) ≡ (zerosAt w i (2 * m - (2 - r)) && zerosAt w (j - 2) (2 - r)) =
+      ap (zerosAt w i) d ∙ zeros-parts i (2 * m - (2 - r)) (2 - r) ∙ ap (λ (k : ℕ). zerosAt w i (2 * m - (2 - r)) && zerosAt w k (2 - r)) f
+      in
+      ap (λ (z : Bool). z && zerosAt w i (2 * m)) tail
+      ∙ ap (λ (z : Bool). (zerosAt w (j - 2) (2 - r) && zerosAt w (i + 2 * m) r) && z) head
+      ∙ overlap (zerosAt w i (2 * m - (2 - r))) (zerosAt w (j - 2) (2 - r)) (zerosAt w (i + 2 * m) r)
+      ∙ ap (λ (z : Bool). z && zerosAt w (i + 2 * m) r) (sym head)
+      ∙ sym (zeros-parts i (2 * m) r)
+      ∙ ap (zerosAt w i) (sym a)
+    where
+      overlap : (p q r : Bool) → ((q && r) && (p && q)) ≡ ((p && q) && r)
+      overlap true true r = and-true r
+      overlap true false r = refl
+      overlap false true r = and-false r
+      overlap false false r = refl
 
--- eight bytes more
-pub zeros-next : (t : List ℕ) (i j m x y : ℕ) → eqb x 0 ≡ (zeroBytes t j 8 && zeroBytes t i (8 * m)) → eqb y 0 ≡ zeroBytes t (i + 8 * m) 8
-    → eqb (bitOr x y) 0 ≡ (zeroBytes t j 8 && zeroBytes t i (8 * (m + 1)))
-zeros-next t i j m x y e f =
-    let a : 8 * (m + 1) ≡ 8 * m + 8 = omega arith in
-    or-zero x y
-    ∙ rw (e, f, a, zeros-parts t i (8 * m) 8) (and-assoc (zeroBytes t j 8) (zeroBytes t i (8 * m)) (zeroBytes t (i + 8 * m) 8))
+  -- the unused records, from the c-th of e on
+  pub unused-zero : (at c e : ℕ) {z : Bool} → z ≡ zerosAt w (at + 3 * c) (at + 3 * e - (at + 3 * c)) → z ≡ zerosAt w (at + 3 * c) (3 * (e - c))
+  unused-zero at c e h = let n : at + 3 * e - (at + 3 * c) ≡ 3 * (e - c) = omega arith in h ∙ ap (zerosAt w (at + 3 * c)) n
 
--- the last eight bytes and as many eights as there are from the first on are all bytes
-pub zeros-all : (t : List ℕ) (i j m : ℕ) → i + 8 ≤ j → m ≡ (j - i) / 8 → (zeroBytes t (j - 8) 8 && zeroBytes t i (8 * m)) ≡ zeroBytes t i (j - i)
-zeros-all t i j m l e =
-    let r = j - i - 8 * m in
-    let a : j - i ≡ 8 * m + r = omega arith in
-    let b : 8 ≡ 8 - r + r = omega arith in
-    let c : j - 8 + (8 - r) ≡ i + 8 * m = omega arith in
-    let d : 8 * m ≡ 8 * m - (8 - r) + (8 - r) = omega arith in
-    let f : i + (8 * m - (8 - r)) ≡ j - 8 = omega arith in
-    let tail : zeroBytes t (j - 8) 8 ≡ (zeroBytes t (j - 8) (8 - r) && zeroBytes t (i + 8 * m) r) =
-    ap (zeroBytes t (j - 8)) b ∙ zeros-parts t (j - 8) (8 - r) r ∙ ap (λ (k : ℕ). zeroBytes t (j - 8) (8 - r) && zeroBytes t k r) c
-    in
-    let head : zeroBytes t i (8 * m) ≡ (zeroBytes t i (8 * m - (8 - r)) && zeroBytes t (j - 8) (8 - r)) =
-    ap (zeroBytes t i) d
-    ∙ zeros-parts t i (8 * m - (8 - r)) (8 - r)
-    ∙ ap (λ (k : ℕ). zeroBytes t i (8 * m - (8 - r)) && zeroBytes t k (8 - r)) f
-    in
-    ap (λ (z : Bool). z && zeroBytes t i (8 * m)) tail
-    ∙ ap (λ (z : Bool). (zeroBytes t (j - 8) (8 - r) && zeroBytes t (i + 8 * m) r) && z) head
-    ∙ overlap (zeroBytes t i (8 * m - (8 - r))) (zeroBytes t (j - 8) (8 - r)) (zeroBytes t (i + 8 * m) r)
-    ∙ ap (λ (z : Bool). z && zeroBytes t (i + 8 * m) r) (sym head)
-    ∙ sym (zeros-parts t i (8 * m) r)
-    ∙ ap (zeroBytes t i) (sym a)
-  where
-    overlap : (p q r : Bool) → ((q && r) && (p && q)) ≡ ((p && q) && r)
-    overlap true true r = and-true r
-    overlap true false r = refl
-    overlap false true r = and-false r
-    overlap false false r = refl
-
--- four bytes are 0 exactly when their word is
-word-zero : (z : Bool) (a b c d : ℕ)
-    → (z && eqb a 0 && eqb b 0 && eqb c 0 && eqb d 0) ≡ (z && eqb (a * 16777216 + b * 65536 + c * 256 + d) 0)
-word-zero false a b c d = refl
-word-zero true a b c d = go (test (eqb a 0)) (test (eqb b 0)) (test (eqb c 0)) (test (eqb d 0))
-  where
-    sum : ℕ
-    sum = a * 16777216 + b * 65536 + c * 256 + d
-
-    go : Test (eqb a 0) → Test (eqb b 0) → Test (eqb c 0) → Test (eqb d 0) → (eqb a 0 && eqb b 0 && eqb c 0 && eqb d 0) ≡ eqb sum 0
-    go (fails x) y u v = let n = eqb-false a 0 x in rw (x, ne-eqb sum 0 (omega arith))
-    go (passes x) (fails y) u v = let n = eqb-false b 0 y in rw (x, y, ne-eqb sum 0 (omega arith))
-    go (passes x) (passes y) (fails u) v = let n = eqb-false c 0 u in rw (x, y, u, ne-eqb sum 0 (omega arith))
-    go (passes x) (passes y) (passes u) (fails v) = let n = eqb-false d 0 v in rw (x, y, u, v, ne-eqb sum 0 (omega arith))
-    go (passes x) (passes y) (passes u) (passes v) =
-        let p = eqb-true a 0 x in
-        let q = eqb-true b 0 y in
-        let r = eqb-true c 0 u in
-        let s = eqb-true d 0 v in
-        rw (x, y, u, v, eq-eqb sum 0 (omega arith))
-
-zero-words : (t : List ℕ) (i m : ℕ) → zeroBytes t (4 * i) (4 * m) ≡ zerosAt (word t) i m
-unfolding word
-zero-words t i zero = refl
-zero-words t i (suc m) =
-    let four : 4 * suc m ≡ suc (suc (suc (suc (4 * m)))) = omega arith in
-    let a : 4 * i + 4 * m ≡ 4 * (i + m) = omega arith in
-    let b : 4 * i + suc (4 * m) ≡ 4 * (i + m) + 1 = omega arith in
-    let c : 4 * i + suc (suc (4 * m)) ≡ 4 * (i + m) + 2 = omega arith in
-    let d : 4 * i + suc (suc (suc (4 * m))) ≡ 4 * (i + m) + 3 = omega arith in
-    rw (four, d, c, b, a, zero-words t i m)
-    (word-zero (zerosAt (word t) i m) (getD t (4 * (i + m)) 0) (getD t (4 * (i + m) + 1) 0) (getD t (4 * (i + m) + 2) 0) (getD t (4 * (i + m) + 3) 0))
-
--- the unused records, from the c-th of e on
-pub unused-zero : (t : List ℕ) (at c e : ℕ) → c ≤ e → {z : Bool} → z ≡ zeroBytes t (4 * (at + 3 * c)) (4 * (at + 3 * e) - 4 * (at + 3 * c))
-    → z ≡ zerosAt (word t) (at + 3 * c) (3 * (e - c))
-unused-zero t at c e l h =
-    let n : 4 * (at + 3 * e) - 4 * (at + 3 * c) ≡ 4 * (3 * (e - c)) = omega arith in
-    h ∙ rw n (zero-words t (at + 3 * c) (3 * (e - c)))
-
-pub unused-none : (w : ℕ → ℕ) (at c e : ℕ) → c ≡ e → true ≡ zerosAt w at (3 * (e - c))
-unused-none w at c e h = let n : e - c ≡ 0 = omega arith in rw n
+  pub unused-none : (at c e : ℕ) → c ≡ e → true ≡ zerosAt w at (3 * (e - c))
+  unused-none at c e h = let n : e - c ≡ 0 = omega arith in rw n
 
 -- ---- the two parts of a section, from what was read of it
 

@@ -1,3 +1,2 @@
-pub mod Zeros
 pub mod Marks
 pub mod Sections

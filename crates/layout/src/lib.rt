@@ -10,7 +10,6 @@ ghost use Rattle.xdr.specs.Words.{word};
 ghost use Rattle.rules.specs.Records.{number, sends};
 ghost use Rattle.rules.specs.Table.{inRange, size, start as startOf, recordsAt, recordsOk, zerosAt, sectionsOk};
 ghost use Rattle.layout.specs.Marks.{clear as clearOf, place as placeOf, rooms as roomsOf, floors as floorsOf, counts as countsOf, masks as masksOf, above, below};
-ghost use Rattle.layout.specs.Zeros.{zeroBytes};
 ghost use Rattle.layout.specs.Sections.{every, rearOk, frontOk};
 ghost use Rattle.rules.specs.Calls.{outcome, first, tableRows, freshOn};
 
@@ -108,47 +107,16 @@ fn used(
     s
 }
 
-// Eight bytes as one number, the first the least.
-fn join(a: u8, b: u8, c: u8, d: u8, e: u8, f: u8, g: u8, h: u8) -> usize
-    ensures { λ r. ⌜ r ≡ a + b * 256 + c * 65536 + d * 16777216 + e * 4294967296 + f * 1099511627776 + g * 281474976710656 + h * 72057594037927936 ⌝ }
+// 0 exactly when the words from word `from` up to word `end`, which are m pairs or one word more, are. The last pair is taken apart, since
+// the rest goes by pairs.
+fn words(t: &[u8], from: usize, m: usize, end: usize) -> usize
+    requires { ⌜ (from + 2 ≤ end) × (4 * end ≤ length (now t)) × (m ≡ (end - from) / 2) ⌝ }
+    ensures { λ r. ⌜ eqb r 0 ≡ zerosAt (word (now (t .entry))) from (end - from) ⌝ }
 {
-    (a as usize)
-        + (b as usize) * 256
-        + (c as usize) * 65536
-        + (d as usize) * 16777216
-        + (e as usize) * 4294967296
-        + (f as usize) * 1099511627776
-        + (g as usize) * 281474976710656
-        + (h as usize) * 72057594037927936
-}
-
-// The eight bytes from byte i on, in an order that takes no turning: only whether all are 0 matters.
-fn eight(t: &[u8], i: usize) -> usize
-    requires { ⌜ i + 8 ≤ length (now t) ⌝ }
-    ensures { λ r. ⌜ eqb r 0 ≡ zeroBytes (now (t .entry)) i 8 ⌝ }
-{
-    join(
-        t[i],
-        t[i + 1],
-        t[i + 2],
-        t[i + 3],
-        t[i + 4],
-        t[i + 5],
-        t[i + 6],
-        t[i + 7],
-    )
-}
-
-// The bytes from byte `from` up to byte `end`, which are m eights or a few more, as one number, which is 0 exactly when all of them are.
-// The last eight are taken apart, since the rest goes by eights.
-fn bytes(t: &[u8], from: usize, m: usize, end: usize) -> usize
-    requires { ⌜ (from + 8 ≤ end) × (end ≤ length (now t)) × (m ≡ (end - from) / 8) ⌝ }
-    ensures { λ r. ⌜ eqb r 0 ≡ zeroBytes (now (t .entry)) from (end - from) ⌝ }
-{
-    let mut x = eight(t, end - 8);
+    let mut x = xdr::raw_pair(t, end - 2);
     let mut i: usize = 0;
     while i < m {
-        x = x | eight(t, from + 8 * i);
+        x = x | xdr::raw_pair(t, from + 2 * i);
         i += 1;
     }
     x
@@ -163,7 +131,7 @@ fn unused(t: &[u8], at: usize, c: usize, e: usize) -> usize
     if m == 0 {
         return 0;
     }
-    bytes(t, 4 * (at + 3 * c), m, 4 * (at + 3 * e))
+    words(t, at + 3 * c, m, at + 3 * e)
 }
 
 // The sections are gone through twice, each time for a part of its own: a loop that looks at both has more at hand than there are

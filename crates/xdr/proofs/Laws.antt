@@ -1,15 +1,18 @@
 -- Words and bytes: a word that was put is read back, every other word stays, and bytes are those of their words.
 use mathlib.Core.Path.{_≡_, refl, sym, ap, _∙_, subst}
 use mathlib.Core.Logic.{_≢_, _⊎_, inl, inr}
+use mathlib.Core.Bool.{Bool, true, false, _&&_}
 use mathlib.Core.List.{List, [], _∷_, _++_}
 use Prim.Native.Nat.{ℕ, zero, suc, _+_, _*_, _/_, _%_, _≤_, _<_}
 use native.Mathlib.Nat.{zero-add, add-zero, not-suc-le-zero, le-of-suc-le-suc, div-div-eq-div-mul, div-add-mod', mod-eq-of-lt}
 use native.Mathlib.Numerals.{add-one}
 use native.Mathlib.Omega.{arith}
 use native.Mathlib.Decide.{decLt}
+use lib.Dec.{eqb}
 use lib.ListN.{length, getD, set, take, drop, length-set, length-drop}
 use lib.Seq.{getD-set-same, getD-set-other, drop-cons}
-use Rattle.xdr.specs.Words.{word, bytes, words, putWord, putWords, putEach}
+use borrow.Author.Tests.{eqb-true, eqb-false, ne-eqb}
+use Rattle.xdr.specs.Words.{word, turned, bytes, words, putWord, putWords, putEach}
 
 -- ---- words as bytes
 
@@ -82,7 +85,7 @@ sum-lt x y z u v xl yl zl ul e = omega arith
 
 -- four bytes joined with the least first, and turned
 pub turned-join : (a b c d v : ℕ) → a < 256 → b < 256 → c < 256 → d < 256 → v ≡ a + b * 256 + c * 65536 + d * 16777216
-    → v % 256 * 16777216 + v / 256 % 256 * 65536 + v / 65536 % 256 * 256 + v / 16777216 ≡ a * 16777216 + b * 65536 + c * 256 + d
+    → turned v ≡ a * 16777216 + b * 65536 + c * 256 + d
 turned-join a b c d v al bl cl dl e =
     let s : d * 16777216 + c * 65536 + b * 256 + a ≡ v = omega arith in
     let x = byte-digits d c b a v dl cl bl al s in
@@ -90,7 +93,7 @@ turned-join a b c d v al bl cl dl e =
     rw (t, ← x .1, ← x .2, ← x .3)
 
 -- the bytes of v turned, the least first
-pub turned-bytes : (v w : ℕ) → v < 4294967296 → w ≡ v % 256 * 16777216 + v / 256 % 256 * 65536 + v / 65536 % 256 * 256 + v / 16777216
+pub turned-bytes : (v w : ℕ) → v < 4294967296 → w ≡ turned v
     → (w % 256 ≡ v / 16777216 % 256) × (w / 256 % 256 ≡ v / 65536 % 256) × (w / 65536 % 256 ≡ v / 256 % 256) × (w / 16777216 ≡ v % 256)
 turned-bytes v w l h =
     let al = top-lt v l in
@@ -101,6 +104,32 @@ turned-bytes v w l h =
       top-byte w (v % 256) (sym (x .0))
           (sum-lt (v % 256) (v / 256 % 256) (v / 65536 % 256) (v / 16777216) w (byte-lt v) (byte-lt (v / 256)) (byte-lt (v / 65536)) al (sym h)),
     )
+
+no-digits : (x x′ y z u v : ℕ) → u * 16777216 + z * 65536 + y * 256 + x ≡ 0 → x′ ≡ x → x′ * 16777216 + y * 65536 + z * 256 + u ≡ v → v ≡ 0
+no-digits x x′ y z u v e i f = omega arith
+
+turned-zero : (v : ℕ) → v < 4294967296 → eqb (turned v) 0 ≡ eqb v 0
+turned-zero v l = go (eqb v 0) refl
+  where
+    back : turned v ≡ 0 → v ≡ 0
+    back h = no-digits (v / 16777216) (v / 16777216 % 256) (v / 65536 % 256) (v / 256 % 256) (v % 256) v h (mod-eq-of-lt (top-lt v l)) (four v l)
+
+    go : (b : Bool) → eqb v 0 ≡ b → eqb (turned v) 0 ≡ b
+    go true h = rw (eqb-true v 0 h)
+    go false h = ne-eqb (turned v) 0 (λ z. eqb-false v 0 h (back z))
+
+halves-zero : (x y : ℕ) → eqb (x + y * 4294967296) 0 ≡ (eqb x 0 && eqb y 0)
+halves-zero x y = go (eqb x 0) (eqb y 0) refl refl
+  where
+    go : (a b : Bool) → eqb x 0 ≡ a → eqb y 0 ≡ b → eqb (x + y * 4294967296) 0 ≡ (a && b)
+    go true true g h = rw (eqb-true x 0 g, eqb-true y 0 h)
+    go true false g h = let n = eqb-false y 0 h in ne-eqb (x + y * 4294967296) 0 (omega arith)
+    go false b g h = let n = eqb-false x 0 g in ne-eqb (x + y * 4294967296) 0 (omega arith)
+
+-- two words that are not turned, as one number
+pub raw-zero : (x y : ℕ) {u v : ℕ} → x < 4294967296 → y < 4294967296 → turned x ≡ u → turned y ≡ v
+    → eqb (x + y * 4294967296) 0 ≡ (eqb u 0 && eqb v 0)
+raw-zero x y xl yl e f = rw (← e, ← f, turned-zero x xl, turned-zero y yl) (halves-zero x y)
 
 word-cons : (x y z u : ℕ) (t : List ℕ) (i : ℕ) → word (x ∷ y ∷ z ∷ u ∷ t) (suc i) ≡ word t i
 unfolding word

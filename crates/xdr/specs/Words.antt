@@ -8,6 +8,10 @@ use lib.ListN.{getD, set}
 unfoldable pub word : List ℕ → ℕ → ℕ
 word s i = getD s (4 * i) 0 * 16777216 + getD s (4 * i + 1) 0 * 65536 + getD s (4 * i + 2) 0 * 256 + getD s (4 * i + 3) 0
 
+-- the number of 32 bits whose bytes are those of v in the opposite order
+abbrev pub turned : ℕ → ℕ
+turned v = v % 256 * 16777216 + v / 256 % 256 * 65536 + v / 65536 % 256 * 256 + v / 16777216
+
 -- the bytes of words
 abbrev pub bytes : List ℕ → List ℕ
 bytes [] = []

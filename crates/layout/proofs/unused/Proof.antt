@@ -17,31 +17,25 @@ returns c =
     let a = c .before .before .args in
     unused-none (word (a .t .now)) (a .at + 3 * a .c) (a .c) (a .e) (omega arith)
 
-mul-bytes : tie.Need-mul-bytes
-mul-bytes c = search needs
+mul-words : tie.Need-mul-words
+mul-words c = search needs
 
-add-bytes : tie.Need-add-bytes
-add-bytes c = search needs
+add-words : tie.Need-add-words
+add-words c = search needs
 
-mul-bytes-2 : tie.Need-mul-bytes-2
-mul-bytes-2 c = search needs
+mul-words-2 : tie.Need-mul-words-2
+mul-words-2 c = search needs
 
-mul-bytes-3 : tie.Need-mul-bytes-3
-mul-bytes-3 c = search needs
+add-words-2 : tie.Need-add-words-2
+add-words-2 c = search needs
 
-add-bytes-2 : tie.Need-add-bytes-2
-add-bytes-2 c = search needs
-
-mul-bytes-4 : tie.Need-mul-bytes-4
-mul-bytes-4 c = search needs
-
-bytes-requires : tie.Need-bytes-requires
-bytes-requires c κs = search needs
+words-requires : tie.Need-words-requires
+words-requires c κs = search needs
 
 returns-2 : tie.Need-returns-2
 returns-2 c =
     let a = c .before .before .before .args in
-    unused-zero (a .t .now) (a .at) (a .c) (a .e) (omega arith) (c .bytes .ensures)
+    unused-zero (word (a .t .now)) (a .at) (a .c) (a .e) (c .words .ensures)
 
 pub unused-spec : {M : Type 1} → statement M
 unused-spec =
@@ -50,11 +44,9 @@ unused-spec =
     sub-m
     mul-m
     returns
-    mul-bytes
-    add-bytes
-    mul-bytes-2
-    mul-bytes-3
-    add-bytes-2
-    mul-bytes-4
-    bytes-requires
+    mul-words
+    add-words
+    mul-words-2
+    add-words-2
+    words-requires
     returns-2)
