@@ -11,7 +11,7 @@ use lib.ListN.{length, set, take, drop, replicate, length-append, length-replica
 use lib.Seq.{take-at, drop-cons}
 use borrow.Author.Tests.{lt-ltb, le-ltb, ltb-true, ltb-false}
 use Rattle.xdr.specs.Words.{word, words}
-use Rattle.xdr.proofs.Laws.{words-length, words-get}
+use Rattle.xdr.proofs.Words.{words-length, words-get}
 use Rattle.rules.specs.Calls.{Outcome, outcome, answerWords}
 use Rattle.rules.specs.Text.{ran, decimal, furtherFields}
 use Rattle.reading.specs.declared.Call.{Call}

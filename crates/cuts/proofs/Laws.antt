@@ -12,12 +12,12 @@ use lib.ListN.{length, getD, set}
 use borrow.Author.Tests.{ltb-true, ltb-false, le-ltb, eqb-true, eq-eqb, ne-eqb, not-false}
 use Rattle.rules.specs.Records.{Event, sends}
 use Rattle.rules.specs.Table.{eventOf, recordsAt}
-use Rattle.rules.specs.Lines.{isCheckpoint, lastSaved, any, before}
-use Rattle.theorems.proofs.Histories.{Test, passes, fails, test}
-use Rattle.theorems.proofs.Steps.{or-false}
-use Rattle.theorems.proofs.WellLaid.{records-length}
-use Rattle.theorems.proofs.Cuts.{last-le, or-right, clash, before-all}
-use Rattle.theorems.proofs.Scans.{event, second-only, sends-next}
+use Rattle.rules.specs.Lines.{isCheckpoint}
+use Rattle.rules.specs.FailureLine.{lastSaved, any, before}
+use Rattle.basics.proofs.Booleans.{Test, passes, fails, test, or-false, or-right, clash}
+use Rattle.records.proofs.Cuts.{last-le, before-all}
+use Rattle.tables.proofs.WellLaid.{records-length}
+use Rattle.tables.proofs.Scans.{event, second-only, sends-next}
 use Rattle.cuts.specs.Tests.{late, place, unsent, noteOf, noted}
 
 -- ---- what a record's words say

@@ -6,7 +6,7 @@ ghost use lib.ListN.{length};
 ghost use Rattle.xdr.specs.Words.{word};
 ghost use Rattle.rules.specs.Records.{sends as sendsOf};
 ghost use Rattle.rules.specs.Table.{recordsAt};
-ghost use Rattle.rules.specs.Lines.{lastSaved, before};
+ghost use Rattle.rules.specs.FailureLine.{lastSaved, before};
 ghost use Rattle.cuts.specs.Tests.{late, place as placeOf, unsent, noted};
 
 // Where a process stands in a cut: how many of its records have happened, and how many of these are sends.

@@ -14,18 +14,18 @@ use lib.Seq.{getD-append-add}
 use lib.Count.{ones, ones-le}
 use borrow.Author.Tests.{eqb-true, not-false, eq-eqb, ne-eqb, le-leb, lt-leb}
 use Rattle.xdr.specs.Words.{word, bytes, putWord, putEach}
-use Rattle.xdr.proofs.Laws.{Bytes, Small, each-same, each-put}
+use Rattle.xdr.proofs.Words.{Bytes, Small, small-append}
+use Rattle.xdr.proofs.Puts.{each-same, each-put}
 use Rattle.rules.specs.Records.{State, history}
 use Rattle.rules.specs.Table.{start, decoded}
-use Rattle.rules.specs.Lines.{failureLine, backBelow, backMask}
+use Rattle.rules.specs.Lines.{backBelow, backMask}
+use Rattle.rules.specs.FailureLine.{failureLine}
 use Rattle.rules.specs.Calls.{outcome, first, tableRows, failureRows, failureAnswer, failedOn}
-use Rattle.theorems.proofs.Steps.{none-met, first-none}
-use Rattle.theorems.proofs.WellLaid.{decoded-count, decoded-short}
-use Rattle.theorems.proofs.Laid.{small-append}
-use Rattle.theorems.proofs.OneCall.{whole, split-zero}
-use Rattle.theorems.proofs.Failure.{failure-line}
-use Rattle.theorems.proofs.Masks.{two-positive, mask-lt}
-use Rattle.theorems.proofs.Outcomes.{judged-stop, judged-done, stopped, going}
+use Rattle.records.proofs.Rows.{none-met, first-none, split-zero, judged-stop, judged-done, stopped, going}
+use Rattle.records.proofs.FailureLines.{failure-line}
+use Rattle.records.proofs.Masks.{two-positive, mask-lt}
+use Rattle.tables.proofs.WellLaid.{decoded-count, decoded-short}
+use Rattle.tables.proofs.OneCall.{whole}
 use Rattle.lowering.specs.Lowering.{Laid, Counted, Over, Lowered, NoneLost, NoneLate}
 use Rattle.lowering.proofs.Cuts.{lost-lowered, none-clean, over-line}
 use Rattle.lowering.proofs.Steps.{is-whole, processes, section}

@@ -6,7 +6,8 @@ ghost use lib.ListN.{length, getD};
 ghost use lib.Count.{ones};
 ghost use Rattle.xdr.specs.Words.{word, putWord, putEach};
 ghost use Rattle.rules.specs.Table.{decoded};
-ghost use Rattle.rules.specs.Lines.{failureLine, backBelow};
+ghost use Rattle.rules.specs.Lines.{backBelow};
+ghost use Rattle.rules.specs.FailureLine.{failureLine};
 ghost use Rattle.rules.specs.Calls.{outcome, first, tableRows, failureRows, failedOn};
 ghost use Rattle.lowering.specs.Lowering.{Laid};
 

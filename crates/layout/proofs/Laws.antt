@@ -19,9 +19,9 @@ use Rattle.layout.specs.Marks.{clear}
 use Rattle.layout.specs.Sections.{every, rearOk, frontOk}
 use Rattle.layout.proofs.Marks.{interchange, or-zero, xor-zero, marks-zero}
 use Rattle.rules.specs.Calls.{outcome, first, tableRows, freshOn}
-use Rattle.theorems.proofs.OneCall.{in-range}
-use Rattle.theorems.proofs.Fresh.{fresh-layout}
-use Rattle.theorems.proofs.Histories.{Test, passes, fails, test}
+use Rattle.basics.proofs.Booleans.{Test, passes, fails, test}
+use Rattle.tables.proofs.OneCall.{in-range}
+use Rattle.tables.proofs.Fresh.{fresh-layout}
 
 -- ---- unused words
 

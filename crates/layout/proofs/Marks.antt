@@ -13,9 +13,9 @@ use lib.Bits.{bitAnd, bitOr, bitXor, and-block, and-high, and-mask, and-zero-r, 
 use borrow.Author.Tests.{ltb-true, ltb-false, leb-true, leb-false, eqb-true, eqb-false, lt-ltb, le-ltb, le-leb, eq-eqb, ne-eqb}
 use Rattle.rules.specs.Records.{number, sends}
 use Rattle.rules.specs.Table.{recordsAt, recordOk, recordsOk}
-use Rattle.theorems.proofs.Histories.{Test, passes, fails, test}
-use Rattle.theorems.proofs.Laid.{product}
-use Rattle.theorems.proofs.Scans.{number-next, sends-next as sent-next}
+use Rattle.basics.proofs.Booleans.{Test, passes, fails, test}
+use Rattle.tables.proofs.Laid.{product}
+use Rattle.tables.proofs.Scans.{number-next, sends-next as sent-next}
 use Rattle.layout.specs.Marks.{clear, place, rooms, floors, counts, masks, above, below}
 
 -- ---- the list of what is added, as it is made

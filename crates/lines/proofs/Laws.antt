@@ -9,16 +9,17 @@ use lib.Dec.{eqb}
 use lib.ListN.{length, length-map}
 use borrow.Author.Tests.{eqb-true, not-false, eq-eqb, ne-eqb}
 use Rattle.xdr.specs.Words.{word, putEach}
-use Rattle.xdr.proofs.Laws.{Bytes, Small, each-put}
+use Rattle.xdr.proofs.Words.{Bytes, Small}
+use Rattle.xdr.proofs.Puts.{each-put}
 use Rattle.rules.specs.Records.{State, history}
 use Rattle.rules.specs.Table.{start, sectionAt, decoded}
 use Rattle.rules.specs.Lines.{numbered, numberedLine}
 use Rattle.rules.specs.Calls.{outcome, first, tableRows, lineRows, lineOn}
-use Rattle.theorems.proofs.Steps.{none-met}
-use Rattle.theorems.proofs.WellLaid.{decoded-at, decoded-length, decoded-short}
-use Rattle.theorems.proofs.OneCall.{Whole, whole, split-zero}
-use Rattle.theorems.proofs.Lines.{numbered-le, position}
-use Rattle.theorems.proofs.Outcomes.{judged-stop, judged-done, stopped, going, head}
+use Rattle.records.proofs.Rows.{none-met, split-zero, judged-stop, judged-done, stopped, going}
+use Rattle.records.proofs.NumberedLines.{numbered-le, position}
+use Rattle.tables.proofs.WellLaid.{decoded-at, decoded-length, decoded-short}
+use Rattle.tables.proofs.OneCall.{Whole, whole}
+use Rattle.tables.proofs.Outcomes.{head}
 
 -- ---- rows
 

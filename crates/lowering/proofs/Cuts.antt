@@ -12,10 +12,12 @@ use lib.ListN.{length, getD, set, length-set, List·getD-eq-default}
 use lib.Seq.{getD-set-same, getD-set-other}
 use borrow.Author.Tests.{ltb-false, le-ltb, eqb-true, eqb-false, not-false}
 use Rattle.rules.specs.Records.{Event, basic, forced, sent, received, History, State, history, sends, hasSend}
-use Rattle.rules.specs.Lines.{upto, part, orphan, NoOrphan, failed, permitted, Permitted, any, lowered, eachFrom, failureLine}
-use Rattle.theorems.proofs.Histories.{Test, passes, fails, test, sends-older, destination-older, holds-held, held-holds, holds-older}
-use Rattle.theorems.proofs.Cuts.{upto-is-older, upto-mono, any-older, any-none, none-any, lowered-le, lowered-permitted, lowered-keeps}
-use Rattle.theorems.proofs.Failure.{each-length, each-at, failure-line}
+use Rattle.rules.specs.Lines.{upto, part, orphan, NoOrphan, failed, permitted, Permitted}
+use Rattle.rules.specs.FailureLine.{any, lowered, eachFrom, failureLine}
+use Rattle.basics.proofs.Booleans.{Test, passes, fails, test}
+use Rattle.records.proofs.Histories.{sends-older, destination-older, holds-held, held-holds, holds-older}
+use Rattle.records.proofs.Cuts.{upto-is-older, upto-mono, any-older, any-none, none-any, lowered-le, lowered-permitted, lowered-keeps}
+use Rattle.records.proofs.FailureLines.{each-length, each-at, failure-line}
 use Rattle.cuts.specs.Tests.{late}
 use Rattle.lowering.specs.Lowering.{Counted, Over, Lowered, lost, NoneLost, NoneLate}
 

@@ -11,13 +11,14 @@ use lib.ListN.{length, getD, set, length-set}
 use lib.Seq.{getD-set-same, getD-set-other}
 use borrow.Author.Tests.{lt-ltb, leb-true, leb-false, le-leb, lt-leb, eq-eqb, ne-eqb}
 use Rattle.xdr.specs.Words.{word}
-use Rattle.xdr.proofs.Laws.{Bytes}
+use Rattle.xdr.proofs.Words.{Bytes}
 use Rattle.rules.specs.Records.{Event, basic, forced, sent, received, History, State, history, sends, destination, hasSend}
 use Rattle.rules.specs.Table.{start, recordsAt, decoded}
-use Rattle.rules.specs.Lines.{any, before}
-use Rattle.theorems.proofs.Histories.{Test, passes, fails, test, Each, each-older}
-use Rattle.theorems.proofs.Laid.{Law, Legal, sends-length}
-use Rattle.theorems.proofs.Cuts.{upto-is-older}
+use Rattle.rules.specs.FailureLine.{any, before}
+use Rattle.basics.proofs.Booleans.{Test, passes, fails, test}
+use Rattle.records.proofs.Histories.{Each, each-older}
+use Rattle.records.proofs.Cuts.{upto-is-older}
+use Rattle.tables.proofs.Laid.{Law, Legal, sends-length}
 use Rattle.cuts.specs.Tests.{place, unsent, noteOf, noted}
 use Rattle.lowering.specs.Lowering.{Laid, Counted, lost, goes, Noted, Blank}
 use Rattle.lowering.proofs.Cuts.{decEq, lost-fair}

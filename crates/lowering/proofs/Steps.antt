@@ -12,25 +12,25 @@ use lib.ListN.{length, getD, set, replicate, length-replicate, getD-replicate}
 use lib.Seq.{getD-set-same, getD-set-other, set-getD}
 use borrow.Author.Tests.{ltb-true, ltb-false, lt-ltb, le-ltb, le-leb, lt-leb}
 use Rattle.xdr.specs.Words.{word}
-use Rattle.xdr.proofs.Laws.{Bytes}
+use Rattle.xdr.proofs.Words.{Bytes}
 use Rattle.rules.specs.Records.{Event, History, State, history, sends}
 use Rattle.rules.specs.Table.{start, recordsAt, decoded}
-use Rattle.rules.specs.Lines.{upto, part, any, before, lastSaved, lowered, failed, top}
+use Rattle.rules.specs.Lines.{upto, part, failed}
+use Rattle.rules.specs.FailureLine.{any, before, lastSaved, lowered, top}
 use Rattle.rules.specs.Calls.{tableRows}
-use Rattle.theorems.proofs.Older.{Older, same, older-length}
-use Rattle.theorems.proofs.Histories.{Test, passes, fails, test, sends-older}
-use Rattle.theorems.proofs.Steps.{none-met}
-use Rattle.theorems.proofs.Lines.{upto-older}
-use Rattle.theorems.proofs.Laid.{Legal, sends-length}
-use Rattle.theorems.proofs.WellLaid.{records-length, decoded-length}
-use Rattle.theorems.proofs.OneCall.{Whole, whole, table-legal}
-use Rattle.theorems.proofs.Outcomes.{Head, head}
-use Rattle.theorems.proofs.Cuts.{upto-is-older, last-le, top-le, top-permitted, top-latest, clash}
-use Rattle.theorems.proofs.Cuts.{before-older, before-less, before-all, lowered-le, lowered-none, lowered-less}
+use Rattle.basics.proofs.Older.{Older, same, older-length}
+use Rattle.basics.proofs.Booleans.{Test, passes, fails, test, clash}
+use Rattle.records.proofs.Histories.{sends-older}
+use Rattle.records.proofs.Rows.{none-met}
+use Rattle.records.proofs.NumberedLines.{upto-older}
+use Rattle.records.proofs.Cuts.{upto-is-older, last-le, top-le, top-permitted, top-latest, before-older, before-less, before-all, lowered-le, lowered-none, lowered-less}
+use Rattle.tables.proofs.Laid.{Legal, sends-length}
+use Rattle.tables.proofs.WellLaid.{records-length, decoded-length}
+use Rattle.tables.proofs.OneCall.{Whole, whole, table-legal}
+use Rattle.tables.proofs.Outcomes.{Head, head}
 use Rattle.cuts.specs.Tests.{late}
 use Rattle.lowering.specs.Lowering.{Laid, Counted, Over, Lowered, lost, Pruned, Settled, Blank}
-use Rattle.lowering.proofs.Cuts.{decEq, total, lowered-refl, lowered-trans, part-same, part-other, set-counted, set-total}
-use Rattle.lowering.proofs.Cuts.{Fair, lower-fair, late-fair}
+use Rattle.lowering.proofs.Cuts.{decEq, total, lowered-refl, lowered-trans, part-same, part-other, set-counted, set-total, Fair, lower-fair, late-fair}
 
 -- ---- older parts of the records from word `at` on
 

@@ -7,7 +7,8 @@ use lib.Dec.{leb}
 use lib.ListN.{length, getD}
 use Rattle.xdr.specs.Words.{word}
 use Rattle.rules.specs.Records.{Event, basic, forced, sent, received, History, State, history, sends, destination, hasSend}
-use Rattle.rules.specs.Lines.{part, NoOrphan, failed, permitted, Permitted, any}
+use Rattle.rules.specs.Lines.{part, NoOrphan, failed, permitted, Permitted}
+use Rattle.rules.specs.FailureLine.{any}
 use Rattle.rules.specs.Calls.{first, tableRows}
 use Rattle.cuts.specs.Tests.{late}
 

@@ -11,7 +11,8 @@ ghost use lib.ListN.{length};
 ghost use Rattle.xdr.specs.Words.{word};
 ghost use Rattle.rules.specs.Records.{history, sends as sendsOf};
 ghost use Rattle.rules.specs.Table.{recordsAt, decoded};
-ghost use Rattle.rules.specs.Lines.{upto, failed, lastSaved, top as topOf};
+ghost use Rattle.rules.specs.Lines.{upto, failed};
+ghost use Rattle.rules.specs.FailureLine.{lastSaved, top as topOf};
 ghost use Rattle.lowering.specs.Lowering.{Laid, Counted, Over, Pruned, Settled, Noted, Blank};
 
 // Positions of sixteen processes, of which the first n count, and how many sends come before each. It goes in and out by value.

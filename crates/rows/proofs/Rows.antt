@@ -8,14 +8,14 @@ use lib.Dec.{eqb, leb, ltb}
 use lib.ListN.{length}
 use borrow.Author.Tests.{leb-false, le-leb, lt-leb, lt-ltb, le-ltb, eq-eqb, ne-eqb}
 use Rattle.xdr.specs.Words.{word}
-use Rattle.xdr.proofs.Laws.{Bytes}
+use Rattle.xdr.proofs.Words.{Bytes}
 use Rattle.rules.specs.Records.{History, history, number, sends, carried, destination, hasReceipt}
 use Rattle.rules.specs.Table.{recordsAt, decoded}
 use Rattle.rules.specs.Steps.{Call, checkpoint, send, receipt}
 use Rattle.rules.specs.Calls.{areaLength, Row, row, first, tableRows, laterRows}
-use Rattle.theorems.proofs.Steps.{none-met, first-none, or-false}
-use Rattle.theorems.proofs.OneCall.{Whole, whole, split-zero}
-use Rattle.theorems.proofs.Outcomes.{stopped, going}
+use Rattle.basics.proofs.Booleans.{or-false}
+use Rattle.records.proofs.Rows.{none-met, first-none, split-zero, stopped, going}
+use Rattle.tables.proofs.OneCall.{Whole, whole}
 use Rattle.rows.specs.Rows.{actRows, pairRows, receiptRows, receiptRowsAt, stepRow}
 
 -- ---- the table, the area and the acting process

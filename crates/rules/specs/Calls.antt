@@ -5,11 +5,12 @@ use Prim.Native.Nat.{ℕ, suc, _+_, _*_, _^_}
 use lib.Dec.{leb, ltb, eqb}
 use lib.ListN.{length}
 use lib.Count.{ones}
-use Rattle.xdr.specs.Words.{word, bytes, words}
+use Rattle.xdr.specs.Words.{word, words, putWords}
 use Rattle.rules.specs.Records.{History, State, history, number, sends, carried, hasSend, hasReceipt}
 use Rattle.rules.specs.Table.{inRange, size, layout, fresh, decoded, wellLaid}
 use Rattle.rules.specs.Steps.{Call, checkpoint, send, receipt, nextNumber, forces, carries, stepped}
-use Rattle.rules.specs.Lines.{numberedLine, failureLine, backMask}
+use Rattle.rules.specs.Lines.{numberedLine, backMask}
+use Rattle.rules.specs.FailureLine.{failureLine}
 
 -- ---- answers
 
@@ -31,7 +32,7 @@ answer s p (receipt q k) =
 unfoldable pub failureAnswer : ℕ → State → List ℕ
 failureAnswer mask s =
     let cut = failureLine mask s in
-    let back = backMask s cut in
+    let back = backMask mask s cut in
     cut ++ (back ∷ ones back ∷ [])
 
 -- ---- rows
@@ -83,9 +84,13 @@ laterRows n E s p call =
     ++ row 9 (ltb E (length (history s p) + needed (history s p) call (carries s call)))
     ∷ numberRows n E (history s p) call
 
+-- a step's rows from the acting process on
+abbrev pub callRows : ℕ → ℕ → State → ℕ → Call → List Row
+callRows n E s p call = row 5 (leb n p) ∷ laterRows n E s p call
+
 -- a step's rows from the answer area on, where the area has len bytes
 abbrev pub stepRows : ℕ → ℕ → State → ℕ → Call → ℕ → List Row
-stepRows n E s p call len = row 4 (not (eqb len (areaLength call))) ∷ row 5 (leb n p) ∷ laterRows n E s p call
+stepRows n E s p call len = row 4 (not (eqb len (areaLength call))) ∷ callRows n E s p call
 
 -- the rows of a numbered line and of a failure line from the answer area on
 abbrev pub lineRows : ℕ → ℕ → List Row
@@ -96,23 +101,32 @@ failureRows n mask len = row 4 (not (eqb len (4 * n + 8))) ∷ row 11 (leb (2 ^ 
 
 -- ---- outcomes
 
--- what a call leaves: the number returned, the table and the area
+-- what a call leaves: the number returned, the table, the answer area, and a further area where it is lent one
 pub record Outcome : Type 0 where
   pub returned : ℕ
   pub table : List ℕ
   pub area : List ℕ
+  pub further : List ℕ
 
+abbrev pub outcomeWith : ℕ → List ℕ → List ℕ → List ℕ → Outcome
+outcomeWith r t a f = record { returned = r; table = t; area = a; further = f }
+
+-- of a call that is lent no further area
 abbrev pub outcome : ℕ → List ℕ → List ℕ → Outcome
-outcome r t a = record { returned = r; table = t; area = a }
+outcome r t a = outcomeWith r t a []
 
 -- what it answers: the words of the area, if it was accepted
 abbrev pub answerWords : Outcome → List ℕ
 answerWords o = cond (eqb (o .returned) 0) (words (o .area)) []
 
--- the number r of the first row met is returned, and table and area stay untouched; if none is met, 0, with the table t′ and the
--- answer's words
+-- The number r of the first row met is returned, and the table, the area and the further area stay untouched. If none is met, 0, with
+-- the table t′, the answer's words over the start of the area, whose other bytes stay, and the further area f′.
+abbrev pub judgedWith : ℕ → List ℕ → List ℕ → List ℕ → List ℕ → List ℕ → List ℕ → Outcome
+judgedWith r t a f t′ ws f′ = cond (eqb r 0) (outcomeWith 0 t′ (putWords a 0 ws) f′) (outcomeWith r t a f)
+
+-- of a call that is lent no further area
 abbrev pub judged : ℕ → List ℕ → List ℕ → List ℕ → List ℕ → Outcome
-judged r t a t′ ws = cond (eqb r 0) (outcome 0 t′ (bytes ws)) (outcome r t a)
+judged r t a t′ ws = judgedWith r t a [] t′ ws []
 
 -- fresh, which has no answer area
 unfoldable pub freshOn : List ℕ → ℕ → ℕ → Outcome

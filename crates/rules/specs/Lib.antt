@@ -2,6 +2,7 @@ pub mod Records
 pub mod Table
 pub mod Steps
 pub mod Lines
+pub mod FailureLine
 pub mod Calls
 pub mod Lists
 pub mod Worked

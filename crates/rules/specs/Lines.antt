@@ -92,62 +92,17 @@ pub record IsFailureLine (mask : ℕ) (s : State) (cut : List ℕ) : Type 0 wher
   pub clean : NoOrphan s cut
   pub latest : (other : List ℕ) → Permitted mask s other → NoOrphan s other → (p : ℕ) → p < length s → getD other p 0 ≤ getD cut p 0
 
--- The same line, computed: every process starts at its latest permitted position, and as long as there is an orphan its process is
--- lowered to the latest saved position before it.
+-- ---- going back
 
--- the latest saved position
-abbrev pub lastSaved : History → ℕ
-lastSaved [] = 0
-lastSaved (e ∷ h) = cond (isCheckpoint e) (suc (length h)) (lastSaved h)
+-- a process goes back when its position t is below its count; `down` tells whether it failed
+abbrev pub goesBack : Bool → History → ℕ → Bool
+goesBack down h t = ltb t (length h)
 
--- the latest permitted position
-abbrev pub top : Bool → History → ℕ
-top down h = cond down (lastSaved h) (length h)
-
--- a test holds for some record
-abbrev pub any : (Event → Bool) → History → Bool
-any o [] = false
-any o (e ∷ h) = o e || any o h
-
--- what was before the first record for which a test holds
-abbrev pub before : (Event → Bool) → History → History
-before o [] = []
-before o (e ∷ h) = cond (o e || any o h) (before o h) (e ∷ h)
-
--- position t of history h, lowered to the latest saved position before the first record for which a test holds, if there is one
-abbrev pub lowered : (Event → Bool) → History → ℕ → ℕ
-lowered o h t = cond (any o (upto t h)) (lastSaved (before o (upto t h))) t
-
--- f i x for each element x, at index i
-abbrev pub eachFrom : {A : Type 0} → ℕ → (ℕ → A → ℕ) → List A → List ℕ
-eachFrom i f [] = []
-eachFrom i f (x ∷ xs) = f i x ∷ eachFrom (suc i) f xs
-
--- every process lowered once, to before its first orphan
-unfoldable pub round : State → List ℕ → List ℕ
-round s cut = eachFrom 0 (λ p t. lowered (orphan s cut p) (history s p) t) cut
-
-unfoldable pub rounds : ℕ → State → List ℕ → List ℕ
-rounds zero s cut = cut
-rounds (suc k) s cut = rounds k s (round s cut)
-
-abbrev pub sum : List ℕ → ℕ
-sum [] = 0
-sum (x ∷ xs) = x + sum xs
-
--- Each round but the last lowers some process, so as many rounds as there are records are enough.
-unfoldable pub failureLine : ℕ → State → List ℕ
-failureLine mask s = rounds (sum (map length s)) s (eachFrom 0 (λ p h. top (failed mask p) h) s)
-
--- a process goes back when its position t is below its count
-abbrev pub goesBack : History → ℕ → Bool
-goesBack h t = ltb t (length h)
-
--- the mask of those of the first p processes that go back
-abbrev pub backBelow : State → List ℕ → ℕ → ℕ
-backBelow s cut zero = 0
-backBelow s cut (suc p) = backBelow s cut p + cond (goesBack (history s p) (getD cut p 0)) (2 ^ p) 0
+-- the mask that has the bits below p for which a test holds
+abbrev pub maskBelow : (ℕ → Bool) → ℕ → ℕ
+maskBelow f zero = 0
+maskBelow f (suc p) = maskBelow f p + cond (f p) (2 ^ p) 0
 
 -- the mask of the processes that go back
-abbrev pub backMask : State → List ℕ → ℕ
-backMask s cut = backBelow s cut (length s)
+abbrev pub backMask : ℕ → State → List ℕ → ℕ
+backMask mask s cut = maskBelow (λ p. goesBack (failed mask p) (history s p) (getD cut p 0)) (length s)

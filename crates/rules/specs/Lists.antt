@@ -1,4 +1,5 @@
 -- Document 01, "Lists of calls".
+use mathlib.Core.Path.{_≡_}
 use mathlib.Core.Bool.{Bool, cond, _&&_}
 use mathlib.Core.List.{List, [], _∷_, _++_}
 use Prim.Native.Nat.{ℕ}
@@ -7,7 +8,7 @@ use lib.ListN.{length}
 use Rattle.rules.specs.Records.{State}
 use Rattle.rules.specs.Table.{layout}
 use Rattle.rules.specs.Steps.{Call, stepped}
-use Rattle.rules.specs.Calls.{Outcome, first, stepRows, answer, judged, stepOn}
+use Rattle.rules.specs.Calls.{Outcome, first, stepRows, answer, judged, freshOn, stepOn}
 
 -- an entry of a list: a call at p, and the answer area that it is lent for itself
 pub data Entry : Type 0 where
@@ -26,6 +27,13 @@ outcomesOn t (e ∷ l) = entryOn t e ∷ outcomesOn (entryOn t e .table) l
 abbrev pub tableAfter : List ℕ → List Entry → List ℕ
 tableAfter t [] = t
 tableAfter t (e ∷ l) = tableAfter (entryOn t e .table) l
+
+-- a table made by accepted calls: what a list leaves that begins on the whole table that an accepted fresh call left
+pub record MadeByCalls (n E : ℕ) (t : List ℕ) : Type 0 where
+  pub lent : List ℕ
+  pub accepted : freshOn lent n E .returned ≡ 0
+  pub list : List Entry
+  pub leaves : tableAfter (freshOn lent n E .table) list ≡ t
 
 -- the call of an entry, as a list, where it is at process p and returned r = 0
 abbrev pub acceptedCall : ℕ → ℕ → Entry → List Call

@@ -11,13 +11,29 @@ use Rattle.rules.specs.Records.{Event, basic, forced, sent, received, Hi
 abbrev pub inRange : ℕ → ℕ → Bool
 inRange n E = leb 1 n && leb n 16 && leb 1 E && leb E 1024
 
+-- a section has a heading of three words (its count c of used records, the current number, its count of sends) and E records
+abbrev pub heading : ℕ
+heading = 3
+
+-- the words of a record: kind, a, b
+abbrev pub width : ℕ
+width = 3
+
+-- where section p starts
+abbrev pub start : ℕ → ℕ → ℕ
+start E p = 2 + p * (heading + width * E)
+
+-- the words of the largest table
+abbrev pub mostWords : ℕ
+mostWords = start 1024 16
+
 -- the table's length in bytes
 abbrev pub size : ℕ → ℕ → ℕ
-size n E = 8 + 12 * n * (E + 1)
+size n E = 8 + 4 * n * (heading + width * E)
 
 -- ---- from records to bytes
 
--- the words kind, a and b of a record that comes after those of h
+-- the words of a record that comes after those of h
 abbrev pub recordWords : Event → History → List ℕ
 recordWords (basic m) h = 1 ∷ m ∷ 0 ∷ []
 recordWords (forced m) h = 2 ∷ m ∷ 0 ∷ []
@@ -29,9 +45,12 @@ abbrev pub usedWords : History → List ℕ
 usedWords [] = []
 usedWords (e ∷ h) = usedWords h ++ recordWords e h
 
--- a section: the count of used records, the current number, the count of sends, then E records
+abbrev pub headingWords : History → List ℕ
+headingWords h = length h ∷ number h ∷ sends h ∷ []
+
+-- a section: its heading, the used records, and zeros for those that are not used
 abbrev pub sectionWords : ℕ → History → List ℕ
-sectionWords E h = length h ∷ number h ∷ sends h ∷ (usedWords h ++ replicate (3 * (E - length h)) 0)
+sectionWords E h = headingWords h ++ (usedWords h ++ replicate (width * (E - length h)) 0)
 
 abbrev pub sectionsWords : ℕ → State → List ℕ
 sectionsWords E [] = []
@@ -51,18 +70,18 @@ fresh n = replicate n []
 abbrev pub eventOf : ℕ → ℕ → ℕ → Event
 eventOf kind a b = cond (eqb kind 4) (received a b) (cond (eqb kind 3) (sent a) (cond (eqb kind 2) (forced a) (basic a)))
 
+-- the record whose words start at word i
+abbrev pub eventAt : (ℕ → ℕ) → ℕ → Event
+eventAt w i = eventOf (w i) (w (i + 1)) (w (i + 2))
+
 -- the first i records from word `at` on
 abbrev pub recordsAt : (ℕ → ℕ) → ℕ → ℕ → History
 recordsAt w at zero = []
-recordsAt w at (suc i) = eventOf (w (at + 3 * i)) (w (at + 3 * i + 1)) (w (at + 3 * i + 2)) ∷ recordsAt w at i
-
--- where section p starts
-abbrev pub start : ℕ → ℕ → ℕ
-start E p = 2 + p * (3 * (E + 1))
+recordsAt w at (suc i) = eventAt w (at + width * i) ∷ recordsAt w at i
 
 -- the records of the section that starts at word `at`, and those of section p
 abbrev pub sectionOf : (ℕ → ℕ) → ℕ → History
-sectionOf w at = recordsAt w (at + 3) (w at)
+sectionOf w at = recordsAt w (at + heading) (w at)
 
 abbrev pub sectionAt : (ℕ → ℕ) → ℕ → ℕ → History
 sectionAt w E p = sectionOf w (start E p)
@@ -78,18 +97,21 @@ decoded t = sectionsFrom (word t) (word t 1) 0 (word t 0)
 
 -- ---- well laid
 
--- a used record of process p, after k sends: its kind is from the table; a checkpoint's number is at most n × E and its b is 0; a
+-- a used record of process p, after those of h: its kind is from the table; a checkpoint's number is at most n × E and its b is 0; a
 -- send or receipt names another process below n and a send number from 1 to E; the k-th send has send number k
-abbrev pub recordOk : ℕ → ℕ → ℕ → ℕ → ℕ → ℕ → ℕ → Bool
-recordOk n E p k kind a b =
+abbrev pub recordOk : ℕ → ℕ → ℕ → History → ℕ → ℕ → ℕ → Bool
+recordOk n E p h kind a b =
     cond (eqb kind 1 || eqb kind 2) (leb a (n * E) && eqb b 0)
-    (cond (eqb kind 3) (ltb a n && not (eqb a p) && ltb 0 b && leb b E && eqb b (suc k))
+    (cond (eqb kind 3) (ltb a n && not (eqb a p) && ltb 0 b && leb b E && eqb b (suc (sends h)))
     (cond (eqb kind 4) (ltb a n && not (eqb a p) && ltb 0 b && leb b E) false))
+
+-- the same of the record whose words start at word i
+abbrev pub recordOkAt : ℕ → ℕ → ℕ → History → (ℕ → ℕ) → ℕ → Bool
+recordOkAt n E p h w i = recordOk n E p h (w i) (w (i + 1)) (w (i + 2))
 
 abbrev pub recordsOk : ℕ → ℕ → (ℕ → ℕ) → ℕ → ℕ → ℕ → Bool
 recordsOk n E w p at zero = true
-recordsOk n E w p at (suc i) =
-    recordsOk n E w p at i && recordOk n E p (sends (recordsAt w at i)) (w (at + 3 * i)) (w (at + 3 * i + 1)) (w (at + 3 * i + 2))
+recordsOk n E w p at (suc i) = recordsOk n E w p at i && recordOkAt n E p (recordsAt w at i) w (at + width * i)
 
 -- m words from word `at` on are 0
 abbrev pub zerosAt : (ℕ → ℕ) → ℕ → ℕ → Bool
@@ -102,10 +124,10 @@ sectionOk n E w p =
     let at = start E p in
     let c = w at in
     leb c E
-    && recordsOk n E w p (at + 3) c
-    && eqb (w (at + 1)) (number (recordsAt w (at + 3) c))
-    && eqb (w (at + 2)) (sends (recordsAt w (at + 3) c))
-    && zerosAt w (at + 3 + 3 * c) (3 * (E - c))
+    && recordsOk n E w p (at + heading) c
+    && eqb (w (at + 1)) (number (recordsAt w (at + heading) c))
+    && eqb (w (at + 2)) (sends (recordsAt w (at + heading) c))
+    && zerosAt w (at + heading + width * c) (width * (E - c))
 
 -- the sections below p
 abbrev pub sectionsOk : ℕ → ℕ → (ℕ → ℕ) → ℕ → Bool

@@ -6,10 +6,10 @@ use Prim.Native.Nat.{ℕ, zero, suc, _+_, _-_, _*_, _/_, _%_}
 use lib.Dec.{leb, ltb, eqb}
 use lib.ListN.{length, getD, take, replicate}
 use lib.Count.{ones, onesIn}
-use Rattle.xdr.specs.Words.{word}
+use Rattle.xdr.specs.Words.{word, putWord, putWords}
 use Rattle.rules.specs.Table.{inRange, size, layout, decoded, wellLaid}
 use Rattle.rules.specs.Steps.{Call, checkpoint, send, receipt}
-use Rattle.rules.specs.Lines.{round, rounds, failureLine}
+use Rattle.rules.specs.FailureLine.{round, rounds, failureLine}
 use Rattle.rules.specs.Calls.{Outcome, outcome, areaLength, failureAnswer, answerWords, freshOn, stepOn, lineOn, failedOn}
 
 -- ---- lines
@@ -266,5 +266,5 @@ listingAnswers =
     ∷ []
 
 pub listing-answered : textOutput listing ≡ listingAnswers
-unfolding textOutput readLine freshOn stepOn lineOn failedOn layout decoded wellLaid word failureAnswer failureLine rounds round ones onesIn
+unfolding textOutput readLine freshOn stepOn lineOn failedOn layout decoded wellLaid word putWord putWords failureAnswer failureLine rounds round ones onesIn
 listing-answered = refl

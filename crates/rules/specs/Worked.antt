@@ -4,10 +4,10 @@ use mathlib.Core.List.{List, [], _∷_, map}
 use Prim.Native.Nat.{ℕ, _*_}
 use lib.ListN.{replicate}
 use lib.Count.{ones, onesIn}
-use Rattle.xdr.specs.Words.{word, bytes}
+use Rattle.xdr.specs.Words.{word, putWord, putWords, bytes}
 use Rattle.rules.specs.Table.{size, layout, decoded, wellLaid}
 use Rattle.rules.specs.Steps.{Call, checkpoint, send, receipt}
-use Rattle.rules.specs.Lines.{round, rounds, failureLine}
+use Rattle.rules.specs.FailureLine.{round, rounds, failureLine}
 use Rattle.rules.specs.Calls.{Outcome, areaLength, failureAnswer, answerWords, freshOn, stepOn, lineOn, failedOn}
 use Rattle.rules.specs.Lists.{Entry, entry, outcomesOn, tableAfter}
 
@@ -45,7 +45,7 @@ worked =
     ∷ [])
 
 pub worked-table : tableAfter (freshTable 3 6) workedCalls ≡ worked
-unfolding freshOn stepOn layout decoded wellLaid word
+unfolding freshOn stepOn layout decoded wellLaid word putWord putWords
 worked-table = refl
 
 -- what a call gives: the number returned, then the words answered
@@ -76,7 +76,7 @@ cases =
     ∷ []
 
 pub worked-cases : map (λ (c : Case). c .given) cases ≡ map (λ (c : Case). c .stated) cases
-unfolding freshOn stepOn lineOn failedOn layout decoded wellLaid word failureAnswer failureLine rounds round ones onesIn
+unfolding freshOn stepOn lineOn failedOn layout decoded wellLaid word putWord putWords failureAnswer failureLine rounds round ones onesIn
 worked-cases = refl
 
 -- the worked calls' answers
@@ -89,13 +89,13 @@ pub worked-answers : map told (outcomesOn (freshTable 3 6) workedCalls)
     ∷ (0 ∷ 1 ∷ 1 ∷ [])
     ∷ (0 ∷ 0 ∷ 0 ∷ [])
     ∷ []
-unfolding freshOn stepOn layout decoded wellLaid word
+unfolding freshOn stepOn layout decoded wellLaid word putWord putWords
 worked-answers = refl
 
 -- Receipts that carry the receiver's own number force nothing: 0 carries 1 to 1, which has a checkpoint of its own numbered 1.
 pub equal-number : map told (outcomesOn (freshTable 2 4) (exact 0 checkpoint ∷ exact 1 checkpoint ∷ exact 0 (send 1) ∷ exact 1 (receipt 0 1) ∷ []))
     ≡ (0 ∷ 1 ∷ []) ∷ (0 ∷ 1 ∷ []) ∷ (0 ∷ 1 ∷ 1 ∷ []) ∷ (0 ∷ 1 ∷ 0 ∷ []) ∷ []
-unfolding freshOn stepOn layout decoded wellLaid word
+unfolding freshOn stepOn layout decoded wellLaid word putWord putWords
 equal-number = refl
 
 -- No run makes this table: process 1 has a receipt of send 1 of process 0, which goes to 2. It is an orphan in every cut, so process 1
@@ -103,5 +103,5 @@ equal-number = refl
 pub other-destination : told (failedOn
     (bytes (3 ∷ 1 ∷ 1 ∷ 0 ∷ 1 ∷ 3 ∷ 2 ∷ 1 ∷ 1 ∷ 0 ∷ 0 ∷ 4 ∷ 0 ∷ 1 ∷ 0 ∷ 0 ∷ 0 ∷ 0 ∷ 0 ∷ 0 ∷ [])) (area 5) 0)
     ≡ 0 ∷ 1 ∷ 0 ∷ 0 ∷ 2 ∷ 1 ∷ []
-unfolding failedOn decoded wellLaid word failureAnswer failureLine rounds round ones onesIn
+unfolding failedOn decoded wellLaid word putWord putWords failureAnswer failureLine rounds round ones onesIn
 other-destination = refl

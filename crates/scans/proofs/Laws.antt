@@ -12,13 +12,12 @@ use borrow.Author.Tests.{ltb-true, lt-ltb, le-leb, lt-leb, leb-false, eqb-true, 
 use Rattle.rules.specs.Records.{Event, basic, forced, sent, received, History, number, sends, carried, destination, hasReceipt}
 use Rattle.rules.specs.Table.{eventOf, recordsAt}
 use Rattle.rules.specs.Lines.{atLeast, numbered}
-use Rattle.theorems.proofs.Older.{Older, same, newer}
-use Rattle.theorems.proofs.Histories.{Test, passes, fails, test, sends-older, carried-older, destination-older}
-use Rattle.theorems.proofs.Steps.{or-false}
-use Rattle.theorems.proofs.WellLaid.{records-length}
-use Rattle.theorems.proofs.Cuts.{or-right}
-use Rattle.theorems.proofs.Lines.{reached, numbered-cons, numbered-le}
-use Rattle.theorems.proofs.Scans.{least-event, sends-next, carried-next, destination-next, receipt-next}
+use Rattle.basics.proofs.Older.{Older, same, newer}
+use Rattle.basics.proofs.Booleans.{Test, passes, fails, test, or-false, or-right}
+use Rattle.records.proofs.Histories.{sends-older, carried-older, destination-older}
+use Rattle.records.proofs.NumberedLines.{reached, numbered-cons, numbered-le}
+use Rattle.tables.proofs.WellLaid.{records-length}
+use Rattle.tables.proofs.Scans.{least-event, sends-next, carried-next, destination-next, receipt-next}
 
 -- the first records of a section are an older part of it
 records-older : (w : ℕ → ℕ) (at i c : ℕ) → i ≤ c → Older (recordsAt w at i) (recordsAt w at c)

@@ -10,14 +10,16 @@ use native.Mathlib.Omega.{arith}
 use lib.Dec.{ltb}
 use lib.ListN.{length}
 use Rattle.xdr.specs.Words.{word, bytes, putWord, putWords}
-use Rattle.xdr.proofs.Laws.{Bytes, Small, one-put, all-put}
+use Rattle.xdr.proofs.Words.{Bytes, Small}
+use Rattle.xdr.proofs.Puts.{one-put, all-put}
 use Rattle.rules.specs.Records.{Event, basic, forced, sent, received, History, history, number, sends, carried}
 use Rattle.rules.specs.Table.{recordWords, layout, start, decoded}
 use Rattle.rules.specs.Steps.{Call, checkpoint, send, receipt, carries, added, stepped}
 use Rattle.rules.specs.Calls.{outcome, areaLength, needed, answer, stepOn}
-use Rattle.theorems.proofs.Stores.{stored}
-use Rattle.theorems.proofs.OneCall.{step-stores}
-use Rattle.theorems.proofs.Outcomes.{judged-stop, judged-done, Head, head, carried-low, Passed, passed}
+use Rattle.records.proofs.Rows.{judged-stop, judged-done}
+use Rattle.tables.proofs.Stores.{stored}
+use Rattle.tables.proofs.OneCall.{step-stores}
+use Rattle.tables.proofs.Outcomes.{Head, head, carried-low, Passed, passed}
 use Rattle.rows.specs.Rows.{stepRow}
 use Rattle.store.specs.Added.{withRecord, withForced, withReceipt}
 

@@ -7,7 +7,7 @@ use native.Mathlib.Omega.{arith}
 use lib.Dec.{ltb}
 use borrow.Author.Tests.{lt-ltb, le-ltb}
 use Rattle.xdr.specs.Words.{word, putWords}
-use Rattle.xdr.proofs.Laws.{put-append}
+use Rattle.xdr.proofs.Puts.{put-append}
 use Rattle.store.specs.Added.{withRecord, withForced, withReceipt}
 
 module _ (t : List ℕ) (at s : ℕ) {c : ℕ} {t₁ : List ℕ} (r : c ≡ word t at) where

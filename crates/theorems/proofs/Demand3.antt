@@ -5,23 +5,24 @@ use mathlib.Core.List.{List, [], _∷_}
 use Prim.Native.Nat.{ℕ, suc, _*_, _≤_}
 use native.Mathlib.Omega.{arith}
 use lib.Dec.{eqb}
-use lib.ListN.{length}
+use lib.ListN.{length, length-map}
 use borrow.Author.Tests.{le-leb, le-ltb, eq-eqb, not-false}
-use Rattle.xdr.specs.Words.{word, bytes}
-use Rattle.xdr.proofs.Laws.{Small, words-bytes}
+use Rattle.xdr.specs.Words.{word, bytes, putWords}
+use Rattle.xdr.proofs.Puts.{whole-put}
+use Rattle.xdr.proofs.Words.{Small, words-bytes}
 use Rattle.rules.specs.Records.{State, history}
 use Rattle.rules.specs.Table.{inRange, size, layout, fresh, decoded, wellLaid}
 use Rattle.rules.specs.Steps.{stepped}
-use Rattle.rules.specs.Lines.{numberedLine}
+use Rattle.rules.specs.Lines.{numbered, numberedLine}
 use Rattle.rules.specs.Calls.{Outcome, outcome, row, first, tableRows, lineRows, stepRows, answer, judged, freshOn, stepOn, lineOn}
 use Rattle.rules.specs.Lists.{Entry, entry, entryOn, outcomesOn, tableAfter, check, accepts, after, run, said, saidAll}
 use Rattle.theorems.specs.TwoLists.{AfterList, Both, TwoLists}
-use Rattle.theorems.proofs.Steps.{NoneMet, none-met, first-append, first-none}
-use Rattle.theorems.proofs.Calls.{judged-returned, same-state}
-use Rattle.theorems.proofs.Made.{Made, made, made-after, made-fresh, never-ten}
-use Rattle.theorems.proofs.Lines.{numbered-le, line-clean}
-use Rattle.theorems.proofs.Laid.{InRange, layout-n, layout-E, layout-length, layout-ok, layout-decoded}
-use Rattle.theorems.proofs.OneCall.{in-range}
+use Rattle.records.proofs.Rows.{NoneMet, none-met, first-append, first-none, judged-returned}
+use Rattle.records.proofs.Made.{Made, made, made-after, made-fresh, never-ten}
+use Rattle.records.proofs.NumberedLines.{numbered-le, line-clean}
+use Rattle.tables.proofs.Laid.{InRange, layout-n, layout-E, layout-length, layout-ok, layout-decoded}
+use Rattle.tables.proofs.OneCall.{in-range}
+use Rattle.theorems.proofs.SameCalls.{same-state}
 
 -- ---- calls on the table of a made state
 
@@ -59,7 +60,7 @@ module _ (n E : ℕ) (d : InRange n E) where
     said-table (entry p call area) = go (accepts n E s (entry p call area))
       where
         go : (b : Bool)
-            → cond b (outcome 0 (layout n E (stepped s p call)) (bytes (answer s p call))) (outcome (check n E s (entry p call area)) (layout n E s) area) .table
+            → cond b (outcome 0 (layout n E (stepped s p call)) (putWords area 0 (answer s p call))) (outcome (check n E s (entry p call area)) (layout n E s) area) .table
             ≡ layout n E (cond b (stepped s p call) s)
         go true = refl
         go false = refl
@@ -71,9 +72,11 @@ module _ (n E : ℕ) (d : InRange n E) where
     unfolding lineOn
     line-said N area l =
         let t = layout n E s in
+        let many : length (numberedLine N s) ≡ n = length-map s (numbered N) ∙ M .size in
         ap (λ (r : ℕ). judged r t area t (numberedLine N (decoded t)))
         (first-append (tableRows t) (lineRows (word t 0) (length area)) unmet-rows)
-        ∙ rw (layout-n n E d s M, layout-decoded n E d s M, eq-eqb (length area) (4 * n) l)
+        ∙ rw (layout-n n E d s M, layout-decoded n E d s M, eq-eqb (length area) (4 * n) l) (
+          ap (outcome 0 t) (whole-put area (numberedLine N s) (l ∙ ap (λ (k : ℕ). 4 * k) (sym many))))
 
   outcomes-said : (l : List Entry) (s : State) → Made n E s → outcomesOn (layout n E s) l ≡ saidAll n E s l
   outcomes-said [] s M = refl

@@ -15,9 +15,9 @@ use Rattle.rules.specs.Lines.{failed, IsFailureLine, goesBack}
 use Rattle.rules.specs.Calls.{outcome, failedOn, first, tableRows}
 
 -- how many of the first p processes go back, which a process does "when its position is below its count"
-abbrev pub howMany : State → List ℕ → ℕ → ℕ
-howMany s cut zero = 0
-howMany s cut (suc p) = howMany s cut p + cond (goesBack (history s p) (getD cut p 0)) 1 0
+abbrev pub howMany : ℕ → State → List ℕ → ℕ → ℕ
+howMany mask s cut zero = 0
+howMany mask s cut (suc p) = howMany mask s cut p + cond (goesBack (failed mask p) (history s p) (getD cut p 0)) 1 0
 
 -- What the exported call leaves: s are the table's records, n its processes.
 pub record Answered (t a : List ℕ) (mask : ℕ) (s : State) (n : ℕ) : Type 0 where
@@ -32,9 +32,9 @@ pub record Answered (t a : List ℕ) (mask : ℕ) (s : State) (n : ℕ) : Type 0
   pub line : IsFailureLine mask s cut
   pub only : (other : List ℕ) → IsFailureLine mask s other → other ≡ cut
   -- the mask has the bits of the processes that go back and no other, and the count of its ones is how many they are
-  pub bits : (p : ℕ) → p < n → failed back p ≡ goesBack (history s p) (getD cut p 0)
+  pub bits : (p : ℕ) → p < n → failed back p ≡ goesBack (failed mask p) (history s p) (getD cut p 0)
   pub within : back < 2 ^ n
-  pub count : ones back ≡ howMany s cut n
+  pub count : ones back ≡ howMany mask s cut n
 
 abbrev pub Latest : Type 0
 Latest = (t a : List ℕ) (mask : ℕ)

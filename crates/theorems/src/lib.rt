@@ -1,1 +1,1 @@
-// What follows from the rules: theorems and laws in proofs/. This crate has no code.
+// Demands 2 and 3: the statements in specs/, their proofs in proofs/. Nothing leans on this crate, and it has no code.

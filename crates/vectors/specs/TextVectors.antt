@@ -4,9 +4,9 @@ use mathlib.Core.Path.{_≡_, refl}
 use mathlib.Core.List.{List, [], _∷_, map}
 use Prim.Native.Nat.{ℕ}
 use lib.Count.{ones, onesIn}
-use Rattle.xdr.specs.Words.{word}
+use Rattle.xdr.specs.Words.{word, putWord, putWords}
 use Rattle.rules.specs.Table.{layout, decoded, wellLaid}
-use Rattle.rules.specs.Lines.{round, rounds, failureLine}
+use Rattle.rules.specs.FailureLine.{round, rounds, failureLine}
 use Rattle.rules.specs.Calls.{failureAnswer, freshOn, stepOn, lineOn, failedOn}
 use Rattle.rules.specs.Text.{textOutput, readLine}
 
@@ -27,7 +27,7 @@ opening-outputs = [] ∷ (57 ∷ 57 ∷ 13 ∷ 10 ∷ []) ∷ (57 ∷ 57 ∷ 13 
     ∷ (49 ∷ 13 ∷ 10 ∷ []) ∷ (57 ∷ 57 ∷ 13 ∷ 10 ∷ []) ∷ (57 ∷ 57 ∷ 13 ∷ 10 ∷ []) ∷ (57 ∷ 57 ∷ 13 ∷ 10 ∷ []) ∷ (57 ∷ 57 ∷ 13 ∷ 10 ∷ []) ∷ []
 
 pub opening-agree : map textOutput opening ≡ opening-outputs
-unfolding textOutput readLine freshOn stepOn lineOn failedOn layout decoded wellLaid word failureAnswer failureLine rounds round ones onesIn
+unfolding textOutput readLine freshOn stepOn lineOn failedOn layout decoded wellLaid word putWord putWords failureAnswer failureLine rounds round ones onesIn
 opening-agree = refl
 
 -- Ends of lines: CR LF together, apart, doubled, missing, in the middle and at the end of the input.
@@ -54,7 +54,7 @@ ending-outputs = (48 ∷ 44 ∷ 44 ∷ 44 ∷ 13 ∷ 10 ∷ 48 ∷ 44 ∷ 48 ∷
     ∷ 44 ∷ 13 ∷ 10 ∷ []) ∷ (48 ∷ 44 ∷ 44 ∷ 44 ∷ 13 ∷ 10 ∷ 57 ∷ 57 ∷ 44 ∷ 44 ∷ 44 ∷ 13 ∷ 10 ∷ 57 ∷ 57 ∷ 44 ∷ 44 ∷ 44 ∷ 13 ∷ 10 ∷ []) ∷ []
 
 pub ending-agree : map textOutput ending ≡ ending-outputs
-unfolding textOutput readLine freshOn stepOn lineOn failedOn layout decoded wellLaid word failureAnswer failureLine rounds round ones onesIn
+unfolding textOutput readLine freshOn stepOn lineOn failedOn layout decoded wellLaid word putWord putWords failureAnswer failureLine rounds round ones onesIn
 ending-agree = refl
 
 -- Fields: too few, too many, other words, capital letters, spaces, quotes, signs, other bytes, numbers left out, unused ones not empty.
@@ -104,7 +104,7 @@ fields-outputs = (48 ∷ 44 ∷ 44 ∷ 44 ∷ 13 ∷ 10 ∷ 57 ∷ 57 ∷ 44 ∷
     ∷ 13 ∷ 10 ∷ 57 ∷ 57 ∷ 44 ∷ 44 ∷ 44 ∷ 13 ∷ 10 ∷ 57 ∷ 57 ∷ 44 ∷ 44 ∷ 44 ∷ 13 ∷ 10 ∷ []) ∷ []
 
 pub fields-agree : map textOutput fields ≡ fields-outputs
-unfolding textOutput readLine freshOn stepOn lineOn failedOn layout decoded wellLaid word failureAnswer failureLine rounds round ones onesIn
+unfolding textOutput readLine freshOn stepOn lineOn failedOn layout decoded wellLaid word putWord putWords failureAnswer failureLine rounds round ones onesIn
 fields-agree = refl
 
 -- Numbers: leading zeros up to ten digits, eleven digits, 32 bits and one more.
@@ -142,7 +142,7 @@ numbers-outputs = (48 ∷ 44 ∷ 44 ∷ 44 ∷ 44 ∷ 13 ∷ 10 ∷ 48 ∷ 44 �
     ∷ 44 ∷ 44 ∷ 44 ∷ 13 ∷ 10 ∷ 55 ∷ 44 ∷ 44 ∷ 44 ∷ 44 ∷ 13 ∷ 10 ∷ []) ∷ []
 
 pub numbers-agree : map textOutput numbers ≡ numbers-outputs
-unfolding textOutput readLine freshOn stepOn lineOn failedOn layout decoded wellLaid word failureAnswer failureLine rounds round ones onesIn
+unfolding textOutput readLine freshOn stepOn lineOn failedOn layout decoded wellLaid word putWord putWords failureAnswer failureLine rounds round ones onesIn
 numbers-agree = refl
 
 -- Lines of 64 bytes and more, with CR LF, without it, and with CR and LF apart behind byte 64: one answer each.
@@ -187,7 +187,7 @@ overlong-outputs = (48 ∷ 44 ∷ 44 ∷ 44 ∷ 13 ∷ 10 ∷ 57 ∷ 57 ∷ 44 �
     ∷ 44 ∷ 48 ∷ 44 ∷ 44 ∷ 13 ∷ 10 ∷ []) ∷ (57 ∷ 57 ∷ 13 ∷ 10 ∷ []) ∷ []
 
 pub overlong-agree : map textOutput overlong ≡ overlong-outputs
-unfolding textOutput readLine freshOn stepOn lineOn failedOn layout decoded wellLaid word failureAnswer failureLine rounds round ones onesIn
+unfolding textOutput readLine freshOn stepOn lineOn failedOn layout decoded wellLaid word putWord putWords failureAnswer failureLine rounds round ones onesIn
 overlong-agree = refl
 
 -- Each number that a call returns, a receipt that forces and one that is overtaken, and a later fresh, which changes nothing.
@@ -227,7 +227,7 @@ calls-outputs = (48 ∷ 44 ∷ 44 ∷ 44 ∷ 44 ∷ 13 ∷ 10 ∷ 48 ∷ 44 ∷ 
     ∷ []
 
 pub calls-agree : map textOutput calls ≡ calls-outputs
-unfolding textOutput readLine freshOn stepOn lineOn failedOn layout decoded wellLaid word failureAnswer failureLine rounds round ones onesIn
+unfolding textOutput readLine freshOn stepOn lineOn failedOn layout decoded wellLaid word putWord putWords failureAnswer failureLine rounds round ones onesIn
 calls-agree = refl
 
 -- Runs as they are drawn, a byte changed in every second one.
@@ -257,5 +257,5 @@ drawn-outputs = (48 ∷ 44 ∷ 44 ∷ 44 ∷ 13 ∷ 10 ∷ 53 ∷ 44 ∷ 44 ∷ 
     ∷ 10 ∷ 57 ∷ 57 ∷ 44 ∷ 44 ∷ 44 ∷ 44 ∷ 44 ∷ 13 ∷ 10 ∷ []) ∷ []
 
 pub drawn-agree : map textOutput drawn ≡ drawn-outputs
-unfolding textOutput readLine freshOn stepOn lineOn failedOn layout decoded wellLaid word failureAnswer failureLine rounds round ones onesIn
+unfolding textOutput readLine freshOn stepOn lineOn failedOn layout decoded wellLaid word putWord putWords failureAnswer failureLine rounds round ones onesIn
 drawn-agree = refl

@@ -4,10 +4,10 @@ use mathlib.Core.Path.{refl}
 use mathlib.Core.List.{List, [], _∷_, _++_}
 use Prim.Native.Nat.{ℕ}
 use lib.Count.{ones, onesIn}
-use Rattle.xdr.specs.Words.{word, bytes}
+use Rattle.xdr.specs.Words.{word, putWord, putWords, bytes}
 use Rattle.rules.specs.Table.{layout, decoded, wellLaid}
 use Rattle.rules.specs.Steps.{checkpoint, send, receipt}
-use Rattle.rules.specs.Lines.{round, rounds, failureLine}
+use Rattle.rules.specs.FailureLine.{round, rounds, failureLine}
 use Rattle.rules.specs.Calls.{failureAnswer, freshOn, stepOn, lineOn, failedOn}
 use Rattle.rules.specs.Text.{fresh, step, line, failed}
 use Rattle.vectors.specs.Try.{Script, script, refused, accepted, lent, Agree}
@@ -56,7 +56,7 @@ worked = script (lent 260) (accepted (fresh 3 6) 0 [] table0 ∷ accepted (step 
     ∷ refused (step 2 (receipt 1 1)) 8 8 ∷ refused (step 1 (receipt 0 2)) 8 7 ∷ []) ∷ []
 
 pub worked-agree : Agree worked
-unfolding freshOn stepOn lineOn failedOn layout decoded wellLaid word failureAnswer failureLine rounds round ones onesIn
+unfolding freshOn stepOn lineOn failedOn layout decoded wellLaid word putWord putWords failureAnswer failureLine rounds round ones onesIn
 worked-agree = refl
 
 abbrev table8 : List ℕ
@@ -102,7 +102,7 @@ small = script (lent 80) (accepted (fresh 2 2) 0 [] table8 ∷ accepted (step 0 
     ∷ accepted (step 1 (receipt 0 1)) 8 (1 ∷ 0 ∷ []) table18 ∷ []) ∷ []
 
 pub small-agree : Agree small
-unfolding freshOn stepOn lineOn failedOn layout decoded wellLaid word failureAnswer failureLine rounds round ones onesIn
+unfolding freshOn stepOn lineOn failedOn layout decoded wellLaid word putWord putWords failureAnswer failureLine rounds round ones onesIn
 small-agree = refl
 
 abbrev table19 : List ℕ
@@ -170,7 +170,7 @@ lengths = script (lent 0) (refused (step 4294967295 checkpoint) 8 2 ∷ refused 
     ∷ refused (line 4294967295) 8 1 ∷ refused (failed 4294967295) 8 1 ∷ refused (fresh 16777216 2) 0 1 ∷ []) ∷ []
 
 pub lengths-agree : Agree lengths
-unfolding freshOn stepOn lineOn failedOn layout decoded wellLaid word failureAnswer failureLine rounds round ones onesIn
+unfolding freshOn stepOn lineOn failedOn layout decoded wellLaid word putWord putWords failureAnswer failureLine rounds round ones onesIn
 lengths-agree = refl
 
 abbrev table30 : List ℕ
@@ -272,7 +272,7 @@ laid = script table30 (refused (step 0 checkpoint) 4 3 ∷ refused (step 1 (send
     ∷ refused (failed 0) 16 3 ∷ []) ∷ []
 
 pub laid-agree : Agree laid
-unfolding freshOn stepOn lineOn failedOn layout decoded wellLaid word failureAnswer failureLine rounds round ones onesIn
+unfolding freshOn stepOn lineOn failedOn layout decoded wellLaid word putWord putWords failureAnswer failureLine rounds round ones onesIn
 laid-agree = refl
 
 abbrev table55 : List ℕ
@@ -327,7 +327,7 @@ rows = script table55 (refused (step 4294967295 checkpoint) 0 4 ∷ refused (ste
     ∷ script table61 (refused (step 0 (receipt 1 3)) 8 9 ∷ []) ∷ []
 
 pub rows-agree : Agree rows
-unfolding freshOn stepOn lineOn failedOn layout decoded wellLaid word failureAnswer failureLine rounds round ones onesIn
+unfolding freshOn stepOn lineOn failedOn layout decoded wellLaid word putWord putWords failureAnswer failureLine rounds round ones onesIn
 rows-agree = refl
 
 abbrev table62 : List ℕ
@@ -429,7 +429,7 @@ forced = script table62 (accepted (step 1 (receipt 0 1)) 8 (5 ∷ 1 ∷ []) tabl
     ∷ accepted (line 1) 12 (2 ∷ 1 ∷ 1 ∷ []) table82 ∷ accepted (line 2) 12 (3 ∷ 1 ∷ 2 ∷ []) table82 ∷ []) ∷ []
 
 pub forced-agree : Agree forced
-unfolding freshOn stepOn lineOn failedOn layout decoded wellLaid word failureAnswer failureLine rounds round ones onesIn
+unfolding freshOn stepOn lineOn failedOn layout decoded wellLaid word putWord putWords failureAnswer failureLine rounds round ones onesIn
 forced-agree = refl
 
 abbrev table83 : List ℕ
@@ -444,7 +444,7 @@ fall = script table83 (accepted (line 0) 8 (0 ∷ 0 ∷ []) table83 ∷ accepted
     ∷ refused (failed 4294967295) 16 11 ∷ []) ∷ []
 
 pub fall-agree : Agree fall
-unfolding freshOn stepOn lineOn failedOn layout decoded wellLaid word failureAnswer failureLine rounds round ones onesIn
+unfolding freshOn stepOn lineOn failedOn layout decoded wellLaid word putWord putWords failureAnswer failureLine rounds round ones onesIn
 fall-agree = refl
 
 abbrev table84 : List ℕ
@@ -463,7 +463,7 @@ run0 = script (lent 32) (accepted (fresh 1 1) 0 [] table84 ∷ accepted (step 0 
     ∷ refused (failed 4294967295) 12 11 ∷ []) ∷ []
 
 pub run0-agree : Agree run0
-unfolding freshOn stepOn lineOn failedOn layout decoded wellLaid word failureAnswer failureLine rounds round ones onesIn
+unfolding freshOn stepOn lineOn failedOn layout decoded wellLaid word putWord putWords failureAnswer failureLine rounds round ones onesIn
 run0-agree = refl
 
 abbrev table86 : List ℕ
@@ -483,7 +483,7 @@ run1 = script (lent 68) (accepted (fresh 1 4) 0 [] table86 ∷ accepted (step 0 
     ∷ refused (failed 2) 12 11 ∷ refused (failed 4294967295) 12 11 ∷ []) ∷ []
 
 pub run1-agree : Agree run1
-unfolding freshOn stepOn lineOn failedOn layout decoded wellLaid word failureAnswer failureLine rounds round ones onesIn
+unfolding freshOn stepOn lineOn failedOn layout decoded wellLaid word putWord putWords failureAnswer failureLine rounds round ones onesIn
 run1-agree = refl
 
 abbrev table88 : List ℕ
@@ -507,7 +507,7 @@ run2 = script (lent 56) (accepted (fresh 2 1) 0 [] table88 ∷ accepted (step 0 
     ∷ accepted (failed 3) 16 (0 ∷ 0 ∷ 3 ∷ 2 ∷ []) table90 ∷ refused (failed 4) 16 11 ∷ refused (failed 4294967295) 16 11 ∷ []) ∷ []
 
 pub run2-agree : Agree run2
-unfolding freshOn stepOn lineOn failedOn layout decoded wellLaid word failureAnswer failureLine rounds round ones onesIn
+unfolding freshOn stepOn lineOn failedOn layout decoded wellLaid word putWord putWords failureAnswer failureLine rounds round ones onesIn
 run2-agree = refl
 
 abbrev table91 : List ℕ
@@ -544,7 +544,7 @@ run3 = script (lent 104) (accepted (fresh 2 3) 0 [] table91 ∷ refused (step 25
     ∷ accepted (failed 3) 16 (0 ∷ 0 ∷ 3 ∷ 2 ∷ []) table97 ∷ refused (failed 4) 16 11 ∷ refused (failed 4294967295) 16 11 ∷ []) ∷ []
 
 pub run3-agree : Agree run3
-unfolding freshOn stepOn lineOn failedOn layout decoded wellLaid word failureAnswer failureLine rounds round ones onesIn
+unfolding freshOn stepOn lineOn failedOn layout decoded wellLaid word putWord putWords failureAnswer failureLine rounds round ones onesIn
 run3-agree = refl
 
 abbrev table98 : List ℕ
@@ -585,7 +585,7 @@ run4 = script (lent 128) (accepted (fresh 2 4) 0 [] table14 ∷ accepted (step 0
     ∷ accepted (failed 3) 16 (0 ∷ 0 ∷ 3 ∷ 2 ∷ []) table105 ∷ refused (failed 4) 16 11 ∷ refused (failed 4294967295) 16 11 ∷ []) ∷ []
 
 pub run4-agree : Agree run4
-unfolding freshOn stepOn lineOn failedOn layout decoded wellLaid word failureAnswer failureLine rounds round ones onesIn
+unfolding freshOn stepOn lineOn failedOn layout decoded wellLaid word putWord putWords failureAnswer failureLine rounds round ones onesIn
 run4-agree = refl
 
 abbrev table106 : List ℕ
@@ -647,7 +647,7 @@ run5 = script (lent 152) (accepted (fresh 2 5) 0 [] table106 ∷ accepted (step 
     ∷ accepted (failed 3) 16 (4 ∷ 2 ∷ 3 ∷ 2 ∷ []) table116 ∷ refused (failed 4) 16 11 ∷ refused (failed 4294967295) 16 11 ∷ []) ∷ []
 
 pub run5-agree : Agree run5
-unfolding freshOn stepOn lineOn failedOn layout decoded wellLaid word failureAnswer failureLine rounds round ones onesIn
+unfolding freshOn stepOn lineOn failedOn layout decoded wellLaid word putWord putWords failureAnswer failureLine rounds round ones onesIn
 run5-agree = refl
 
 abbrev table117 : List ℕ
@@ -710,7 +710,7 @@ run6 = script (lent 176) (accepted (fresh 2 6) 0 [] table117 ∷ accepted (step 
     ∷ accepted (failed 3) 16 (3 ∷ 5 ∷ 3 ∷ 2 ∷ []) table127 ∷ refused (failed 4) 16 11 ∷ refused (failed 4294967295) 16 11 ∷ []) ∷ []
 
 pub run6-agree : Agree run6
-unfolding freshOn stepOn lineOn failedOn layout decoded wellLaid word failureAnswer failureLine rounds round ones onesIn
+unfolding freshOn stepOn lineOn failedOn layout decoded wellLaid word putWord putWords failureAnswer failureLine rounds round ones onesIn
 run6-agree = refl
 
 abbrev table128 : List ℕ
@@ -751,7 +751,7 @@ run7 = script (lent 116) (accepted (fresh 3 2) 0 [] table128 ∷ accepted (step 
     ∷ refused (failed 4294967295) 20 11 ∷ []) ∷ []
 
 pub run7-agree : Agree run7
-unfolding freshOn stepOn lineOn failedOn layout decoded wellLaid word failureAnswer failureLine rounds round ones onesIn
+unfolding freshOn stepOn lineOn failedOn layout decoded wellLaid word putWord putWords failureAnswer failureLine rounds round ones onesIn
 run7-agree = refl
 
 abbrev table135 : List ℕ
@@ -804,7 +804,7 @@ run8 = script (lent 152) (accepted (fresh 3 3) 0 [] table135 ∷ accepted (step 
     ∷ refused (failed 4294967295) 20 11 ∷ []) ∷ []
 
 pub run8-agree : Agree run8
-unfolding freshOn stepOn lineOn failedOn layout decoded wellLaid word failureAnswer failureLine rounds round ones onesIn
+unfolding freshOn stepOn lineOn failedOn layout decoded wellLaid word putWord putWords failureAnswer failureLine rounds round ones onesIn
 run8-agree = refl
 
 abbrev table143 : List ℕ
@@ -869,7 +869,7 @@ run9 = script (lent 188) (accepted (fresh 3 4) 0 [] table143 ∷ accepted (step 
     ∷ accepted (failed 7) 20 (0 ∷ 1 ∷ 4 ∷ 3 ∷ 2 ∷ []) table153 ∷ refused (failed 8) 20 11 ∷ refused (failed 4294967295) 20 11 ∷ []) ∷ []
 
 pub run9-agree : Agree run9
-unfolding freshOn stepOn lineOn failedOn layout decoded wellLaid word failureAnswer failureLine rounds round ones onesIn
+unfolding freshOn stepOn lineOn failedOn layout decoded wellLaid word putWord putWords failureAnswer failureLine rounds round ones onesIn
 run9-agree = refl
 
 abbrev table154 : List ℕ
@@ -955,7 +955,7 @@ run10 = script (lent 224) (accepted (fresh 3 5) 0 [] table154 ∷ accepted (step
     ∷ accepted (failed 7) 20 (4 ∷ 5 ∷ 5 ∷ 1 ∷ 1 ∷ []) table169 ∷ refused (failed 8) 20 11 ∷ refused (failed 4294967295) 20 11 ∷ []) ∷ []
 
 pub run10-agree : Agree run10
-unfolding freshOn stepOn lineOn failedOn layout decoded wellLaid word failureAnswer failureLine rounds round ones onesIn
+unfolding freshOn stepOn lineOn failedOn layout decoded wellLaid word putWord putWords failureAnswer failureLine rounds round ones onesIn
 run10-agree = refl
 
 abbrev table170 : List ℕ
@@ -1038,7 +1038,7 @@ run11 = script (lent 260) (accepted (fresh 3 6) 0 [] table0 ∷ accepted (step 0
     ∷ accepted (failed 7) 20 (4 ∷ 3 ∷ 5 ∷ 7 ∷ 3 ∷ []) table184 ∷ refused (failed 8) 20 11 ∷ refused (failed 4294967295) 20 11 ∷ []) ∷ []
 
 pub run11-agree : Agree run11
-unfolding freshOn stepOn lineOn failedOn layout decoded wellLaid word failureAnswer failureLine rounds round ones onesIn
+unfolding freshOn stepOn lineOn failedOn layout decoded wellLaid word putWord putWords failureAnswer failureLine rounds round ones onesIn
 run11-agree = refl
 
 -- A well laid table that no run makes: n = 1, E = 1.
@@ -1051,7 +1051,7 @@ unmade0 = script table84 (accepted (line 0) 4 (0 ∷ []) table84 ∷ accepted (l
     ∷ refused (step 0 (receipt 0 1)) 8 6 ∷ refused (step 0 (send 0)) 8 6 ∷ refused (step 0 (send 0)) 8 6 ∷ []) ∷ []
 
 pub unmade0-agree : Agree unmade0
-unfolding freshOn stepOn lineOn failedOn layout decoded wellLaid word failureAnswer failureLine rounds round ones onesIn
+unfolding freshOn stepOn lineOn failedOn layout decoded wellLaid word putWord putWords failureAnswer failureLine rounds round ones onesIn
 unmade0-agree = refl
 
 abbrev table185 : List ℕ
@@ -1067,7 +1067,7 @@ unmade1 = script table185 (accepted (line 0) 4 (0 ∷ []) table185 ∷ accepted 
     ∷ refused (step 0 (send 0)) 8 6 ∷ refused (step 0 (send 0)) 8 6 ∷ refused (step 0 (send 0)) 8 6 ∷ []) ∷ []
 
 pub unmade1-agree : Agree unmade1
-unfolding freshOn stepOn lineOn failedOn layout decoded wellLaid word failureAnswer failureLine rounds round ones onesIn
+unfolding freshOn stepOn lineOn failedOn layout decoded wellLaid word putWord putWords failureAnswer failureLine rounds round ones onesIn
 unmade1-agree = refl
 
 abbrev table186 : List ℕ
@@ -1088,7 +1088,7 @@ unmade2 = script table186 (accepted (line 0) 8 (0 ∷ 0 ∷ []) table186 ∷ acc
     ∷ refused (step 1 (send 0)) 8 9 ∷ []) ∷ []
 
 pub unmade2-agree : Agree unmade2
-unfolding freshOn stepOn lineOn failedOn layout decoded wellLaid word failureAnswer failureLine rounds round ones onesIn
+unfolding freshOn stepOn lineOn failedOn layout decoded wellLaid word putWord putWords failureAnswer failureLine rounds round ones onesIn
 unmade2-agree = refl
 
 abbrev table188 : List ℕ
@@ -1108,7 +1108,7 @@ unmade3 = script table188 (accepted (line 0) 8 (0 ∷ 0 ∷ []) table188 ∷ acc
     ∷ refused (step 0 (receipt 1 2)) 8 7 ∷ refused (step 1 checkpoint) 4 9 ∷ refused (step 0 (send 0)) 8 6 ∷ []) ∷ []
 
 pub unmade3-agree : Agree unmade3
-unfolding freshOn stepOn lineOn failedOn layout decoded wellLaid word failureAnswer failureLine rounds round ones onesIn
+unfolding freshOn stepOn lineOn failedOn layout decoded wellLaid word putWord putWords failureAnswer failureLine rounds round ones onesIn
 unmade3-agree = refl
 
 abbrev table190 : List ℕ
@@ -1132,7 +1132,7 @@ unmade4 = script table190 (accepted (line 0) 8 (0 ∷ 0 ∷ []) table190 ∷ acc
     ∷ refused (step 0 (receipt 1 1)) 8 8 ∷ []) ∷ []
 
 pub unmade4-agree : Agree unmade4
-unfolding freshOn stepOn lineOn failedOn layout decoded wellLaid word failureAnswer failureLine rounds round ones onesIn
+unfolding freshOn stepOn lineOn failedOn layout decoded wellLaid word putWord putWords failureAnswer failureLine rounds round ones onesIn
 unmade4-agree = refl
 
 abbrev table193 : List ℕ
@@ -1153,7 +1153,7 @@ unmade5 = script table193 (accepted (line 0) 8 (0 ∷ 0 ∷ []) table193 ∷ acc
     ∷ refused (step 0 (receipt 1 1)) 4 4 ∷ []) ∷ []
 
 pub unmade5-agree : Agree unmade5
-unfolding freshOn stepOn lineOn failedOn layout decoded wellLaid word failureAnswer failureLine rounds round ones onesIn
+unfolding freshOn stepOn lineOn failedOn layout decoded wellLaid word putWord putWords failureAnswer failureLine rounds round ones onesIn
 unmade5-agree = refl
 
 abbrev table195 : List ℕ
@@ -1192,7 +1192,7 @@ unmade6 = script table195 (accepted (line 0) 8 (0 ∷ 0 ∷ []) table195 ∷ acc
     ∷ refused (step 0 (send 1)) 8 9 ∷ refused (step 1 (send 0)) 8 9 ∷ []) ∷ []
 
 pub unmade6-agree : Agree unmade6
-unfolding freshOn stepOn lineOn failedOn layout decoded wellLaid word failureAnswer failureLine rounds round ones onesIn
+unfolding freshOn stepOn lineOn failedOn layout decoded wellLaid word putWord putWords failureAnswer failureLine rounds round ones onesIn
 unmade6-agree = refl
 
 abbrev table201 : List ℕ
@@ -1215,7 +1215,7 @@ unmade7 = script table201 (accepted (line 0) 8 (0 ∷ 0 ∷ []) table201 ∷ acc
     ∷ []
 
 pub unmade7-agree : Agree unmade7
-unfolding freshOn stepOn lineOn failedOn layout decoded wellLaid word failureAnswer failureLine rounds round ones onesIn
+unfolding freshOn stepOn lineOn failedOn layout decoded wellLaid word putWord putWords failureAnswer failureLine rounds round ones onesIn
 unmade7-agree = refl
 
 abbrev table203 : List ℕ
@@ -1248,7 +1248,7 @@ unmade8 = script table203 (accepted (line 0) 12 (0 ∷ 0 ∷ 0 ∷ []) table203 
     ∷ accepted (step 0 (receipt 2 1)) 8 (0 ∷ 0 ∷ []) table207 ∷ []) ∷ []
 
 pub unmade8-agree : Agree unmade8
-unfolding freshOn stepOn lineOn failedOn layout decoded wellLaid word failureAnswer failureLine rounds round ones onesIn
+unfolding freshOn stepOn lineOn failedOn layout decoded wellLaid word putWord putWords failureAnswer failureLine rounds round ones onesIn
 unmade8-agree = refl
 
 abbrev table208 : List ℕ
@@ -1286,7 +1286,7 @@ unmade9 = script table208 (accepted (line 0) 12 (0 ∷ 0 ∷ 0 ∷ []) table208 
     ∷ refused (step 2 (receipt 1 2)) 8 8 ∷ []) ∷ []
 
 pub unmade9-agree : Agree unmade9
-unfolding freshOn stepOn lineOn failedOn layout decoded wellLaid word failureAnswer failureLine rounds round ones onesIn
+unfolding freshOn stepOn lineOn failedOn layout decoded wellLaid word putWord putWords failureAnswer failureLine rounds round ones onesIn
 unmade9-agree = refl
 
 abbrev table213 : List ℕ
@@ -1324,7 +1324,7 @@ unmade10 = script table213 (accepted (line 0) 12 (0 ∷ 0 ∷ 0 ∷ []) table213
     ∷ refused (step 17 (send 0)) 8 5 ∷ []) ∷ []
 
 pub unmade10-agree : Agree unmade10
-unfolding freshOn stepOn lineOn failedOn layout decoded wellLaid word failureAnswer failureLine rounds round ones onesIn
+unfolding freshOn stepOn lineOn failedOn layout decoded wellLaid word putWord putWords failureAnswer failureLine rounds round ones onesIn
 unmade10-agree = refl
 
 abbrev table218 : List ℕ
@@ -1353,7 +1353,7 @@ unmade11 = script table218 (accepted (line 0) 12 (0 ∷ 0 ∷ 0 ∷ []) table218
     ∷ refused (step 2 (send 2)) 8 6 ∷ accepted (step 2 checkpoint) 4 (2 ∷ []) table220 ∷ []) ∷ []
 
 pub unmade11-agree : Agree unmade11
-unfolding freshOn stepOn lineOn failedOn layout decoded wellLaid word failureAnswer failureLine rounds round ones onesIn
+unfolding freshOn stepOn lineOn failedOn layout decoded wellLaid word putWord putWords failureAnswer failureLine rounds round ones onesIn
 unmade11-agree = refl
 
 abbrev table221 : List ℕ
@@ -1382,7 +1382,7 @@ unmade12 = script table221 (accepted (line 0) 12 (0 ∷ 0 ∷ 0 ∷ []) table221
     ∷ refused (step 2 (receipt 0 1)) 8 9 ∷ refused (step 1 (send 2)) 8 9 ∷ refused (step 2 checkpoint) 4 9 ∷ []) ∷ []
 
 pub unmade12-agree : Agree unmade12
-unfolding freshOn stepOn lineOn failedOn layout decoded wellLaid word failureAnswer failureLine rounds round ones onesIn
+unfolding freshOn stepOn lineOn failedOn layout decoded wellLaid word putWord putWords failureAnswer failureLine rounds round ones onesIn
 unmade12-agree = refl
 
 abbrev table224 : List ℕ
@@ -1416,5 +1416,5 @@ unmade13 = script table224 (accepted (line 0) 12 (0 ∷ 0 ∷ 0 ∷ []) table224
     ∷ []
 
 pub unmade13-agree : Agree unmade13
-unfolding freshOn stepOn lineOn failedOn layout decoded wellLaid word failureAnswer failureLine rounds round ones onesIn
+unfolding freshOn stepOn lineOn failedOn layout decoded wellLaid word putWord putWords failureAnswer failureLine rounds round ones onesIn
 unmade13-agree = refl

@@ -36,7 +36,7 @@ use Rattle.vectors.specs.Try.{Script, script, refused, accepted, lent, A
 ";
 
 const UNFOLDING: &str =
-    "unfolding freshOn stepOn lineOn failedOn layout decoded wellLaid word failureAnswer failureLine rounds round ones onesIn";
+    "unfolding freshOn stepOn lineOn failedOn layout decoded wellLaid word putWord putWords failureAnswer failureLine rounds round ones onesIn";
 
 /// A list as antt has it.
 fn list<T: ToString>(items: &[T]) -> String {

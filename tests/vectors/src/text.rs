@@ -24,7 +24,7 @@ use Rattle.rules.specs.Calls.{failureAnswer, freshOn, stepOn, lineOn, failedOn}
 use Rattle.rules.specs.Text.{textOutput, readLine}
 ";
 
-const UNFOLDING: &str = "unfolding textOutput readLine freshOn stepOn lineOn failedOn layout decoded wellLaid word failureAnswer failureLine rounds round ones onesIn";
+const UNFOLDING: &str = "unfolding textOutput readLine freshOn stepOn lineOn failedOn layout decoded wellLaid word putWord putWords failureAnswer failureLine rounds round ones onesIn";
 
 /// The start of a definition and its list of lists of bytes.
 fn bytes_of_each(start: &str, texts: &[Vec<u8>]) -> String {

@@ -2,7 +2,7 @@ use Prim.Native.Nat.{_≤_, _-_}
 use mathlib.Core.Path.{_≡_, refl, ap}
 use native.Mathlib.Omega.{arith}
 use borrow.Author.Needs.{needs}
-use Rattle.rules.specs.Lines.{lastSaved}
+use Rattle.rules.specs.FailureLine.{lastSaved}
 use Rattle.rules.specs.Records.{sends as sendsOf}
 use Rattle.rules.specs.Table.{recordsAt}
 use Rattle.xdr.specs.Words.{word}

@@ -4,7 +4,7 @@ use mathlib.Core.Path.{_≡_, refl, sym, _∙_}
 use native.Mathlib.Omega.{arith}
 use borrow.Author.Needs.{needs}
 use Rattle.cuts.specs.Tests.{late}
-use Rattle.rules.specs.Lines.{any}
+use Rattle.rules.specs.FailureLine.{any}
 use Rattle.rules.specs.Table.{recordsAt}
 use Rattle.xdr.specs.Words.{word}
 use Rattle.cuts.proofs.Laws.{none-next, first-none, first-found, late-event}

@@ -5,7 +5,7 @@ use native.Mathlib.Omega.{arith}
 use lib.ListN.{length}
 use borrow.Author.Needs.{needs}
 use Rattle.cuts.specs.Tests.{unsent}
-use Rattle.rules.specs.Lines.{any}
+use Rattle.rules.specs.FailureLine.{any}
 use Rattle.rules.specs.Table.{recordsAt}
 use Rattle.xdr.specs.Words.{word}
 use Rattle.cuts.proofs.Laws.{none-next, first-none, first-found, unsent-event, place-in}

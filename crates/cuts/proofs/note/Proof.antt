@@ -7,7 +7,7 @@ use borrow.Author.Needs.{needs}
 use Rattle.cuts.specs.Tests.{noted}
 use Rattle.rules.specs.Records.{sends}
 use Rattle.rules.specs.Table.{recordsAt}
-use Rattle.theorems.proofs.Scans.{sends-next, sends-at-most}
+use Rattle.tables.proofs.Scans.{sends-next, sends-at-most}
 use Rattle.xdr.specs.Words.{word}
 use Rattle.cuts.proofs.Laws.{note-next, note-small}
 use Rattle.cuts.proofs.note.Statement.{statement}

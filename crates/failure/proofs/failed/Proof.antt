@@ -1,7 +1,7 @@
 use mathlib.Core.Path.{refl}
 use native.Mathlib.Omega.{arith}
 use borrow.Author.Needs.{needs}
-use Rattle.theorems.proofs.Outcomes.{long}
+use Rattle.tables.proofs.Outcomes.{long}
 use Rattle.failure.proofs.Laws.{asked, failed-refused, failed-done}
 use Rattle.failure.proofs.failed.Statement.{statement}
 use Rattle.failure.proofs.failed.Tie as tie

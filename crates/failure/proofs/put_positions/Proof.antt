@@ -3,7 +3,7 @@ use mathlib.Core.Path.{_≡_, refl, ap, _∙_}
 use native.Mathlib.Omega.{arith}
 use lib.ListN.{length, getD}
 use borrow.Author.Needs.{needs}
-use Rattle.xdr.proofs.Laws.{put-length, each-next}
+use Rattle.xdr.proofs.Puts.{put-length, each-next}
 use Rattle.xdr.specs.Words.{putEach}
 use Rattle.failure.proofs.put_positions.Statement.{statement}
 use Rattle.failure.proofs.put_positions.Tie as tie

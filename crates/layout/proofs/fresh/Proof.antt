@@ -2,8 +2,8 @@ use mathlib.Core.Path.{sym, _∙_}
 use native.Mathlib.Omega.{arith}
 use borrow.Author.Needs.{needs}
 use borrow.Author.Tests.{not-true, not-false}
-use Rattle.xdr.proofs.Laws.{two-puts}
-use Rattle.theorems.proofs.OneCall.{in-range}
+use Rattle.xdr.proofs.Puts.{two-puts}
+use Rattle.tables.proofs.OneCall.{in-range}
 use Rattle.layout.proofs.Laws.{fresh-range, fresh-size, fresh-done}
 use Rattle.layout.proofs.fresh.Statement.{statement}
 use Rattle.layout.proofs.fresh.Tie as tie

@@ -3,7 +3,7 @@ use native.Mathlib.Omega.{arith}
 use borrow.Author.Needs.{needs}
 use borrow.Author.Tests.{not-true, not-false}
 use Rattle.xdr.specs.Words.{word}
-use Rattle.theorems.proofs.Laid.{product}
+use Rattle.tables.proofs.Laid.{product}
 use Rattle.layout.proofs.Laws.{sections-rears, sections-fronts}
 use Rattle.layout.proofs.Marks.{rooms-made}
 use Rattle.layout.proofs.sections_ok.Statement.{statement}

@@ -1,7 +1,7 @@
 use mathlib.Core.Path.{refl}
 use native.Mathlib.Omega.{arith}
 use borrow.Author.Needs.{needs}
-use Rattle.theorems.proofs.Laid.{product}
+use Rattle.tables.proofs.Laid.{product}
 use Rattle.layout.proofs.start.Statement.{statement}
 use Rattle.layout.proofs.start.Tie as tie
 

@@ -2,7 +2,7 @@ use mathlib.Core.Path.{sym, _∙_}
 use native.Mathlib.Omega.{arith}
 use borrow.Author.Needs.{needs}
 use borrow.Author.Tests.{not-true, not-false}
-use Rattle.theorems.proofs.OneCall.{in-range}
+use Rattle.tables.proofs.OneCall.{in-range}
 use Rattle.layout.proofs.Laws.{row-short, row-range, row-size, row-laid, row-none}
 use Rattle.layout.proofs.table_row.Statement.{statement}
 use Rattle.layout.proofs.table_row.Tie as tie

@@ -1,6 +1,6 @@
 use native.Mathlib.Omega.{arith}
 use borrow.Author.Needs.{needs}
-use Rattle.theorems.proofs.Laid.{product}
+use Rattle.tables.proofs.Laid.{product}
 use Rattle.layout.proofs.table_size.Statement.{statement}
 use Rattle.layout.proofs.table_size.Tie as tie
 

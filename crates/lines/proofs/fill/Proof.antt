@@ -4,9 +4,8 @@ use native.Mathlib.Nat.{mul-le-mul-right}
 use native.Mathlib.Omega.{arith}
 use lib.ListN.{length}
 use borrow.Author.Needs.{needs}
-use Rattle.xdr.proofs.Laws.{put-length}
+use Rattle.xdr.proofs.Puts.{put-length, each-next}
 use Rattle.xdr.specs.Words.{word, putEach}
-use Rattle.xdr.proofs.Laws.{each-next}
 use Rattle.rules.specs.Table.{sectionAt}
 use Rattle.rules.specs.Lines.{numbered}
 use Rattle.lines.proofs.fill.Statement.{statement}

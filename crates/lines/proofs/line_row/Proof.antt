@@ -1,6 +1,6 @@
 use native.Mathlib.Omega.{arith}
 use borrow.Author.Needs.{needs}
-use Rattle.theorems.proofs.Outcomes.{long}
+use Rattle.tables.proofs.Outcomes.{long}
 use Rattle.lines.proofs.Laws.{line-table, line-area, line-none}
 use Rattle.lines.proofs.line_row.Statement.{statement}
 use Rattle.lines.proofs.line_row.Tie as tie

@@ -5,7 +5,7 @@ use lib.ListN.{length, length-set, length-replicate}
 use borrow.Author.Needs.{needs}
 use Rattle.rules.specs.Records.{history}
 use Rattle.rules.specs.Table.{decoded}
-use Rattle.theorems.proofs.Cuts.{top-le}
+use Rattle.records.proofs.Cuts.{top-le}
 use Rattle.lowering.proofs.Steps.{processes, small-counts, Started, started-next, started-done}
 use Rattle.lowering.proofs.tops.Statement.{statement}
 use Rattle.lowering.proofs.tops.Tie as tie

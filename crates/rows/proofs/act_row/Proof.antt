@@ -1,6 +1,6 @@
 use native.Mathlib.Omega.{arith}
 use borrow.Author.Needs.{needs}
-use Rattle.theorems.proofs.Outcomes.{long}
+use Rattle.tables.proofs.Outcomes.{long}
 use Rattle.rows.proofs.Rows.{act-table, act-area, act-process, act-none}
 use Rattle.rows.proofs.act_row.Statement.{statement}
 use Rattle.rows.proofs.act_row.Tie as tie

@@ -1,7 +1,7 @@
 use mathlib.Core.Path.{_∙_}
 use native.Mathlib.Omega.{arith}
 use borrow.Author.Needs.{needs}
-use Rattle.theorems.proofs.Outcomes.{head}
+use Rattle.tables.proofs.Outcomes.{head}
 use Rattle.rows.proofs.Rows.{pairs, send-stopped, send-full, send-none}
 use Rattle.rows.proofs.send_row.Statement.{statement}
 use Rattle.rows.proofs.send_row.Tie as tie

@@ -6,7 +6,7 @@ use borrow.Author.Needs.{needs}
 use Rattle.xdr.specs.Words.{word}
 use Rattle.rules.specs.Records.{number as numberOf, sends as sendsOf}
 use Rattle.rules.specs.Table.{recordsAt}
-use Rattle.theorems.proofs.Scans.{number-next, sends-next, sends-at-most}
+use Rattle.tables.proofs.Scans.{number-next, sends-next, sends-at-most}
 use Rattle.scans.proofs.Laws.{Answers, send-none, send-found, send-passed}
 use Rattle.scans.proofs.find_send.Statement.{statement}
 use Rattle.scans.proofs.find_send.Tie as tie

@@ -7,7 +7,7 @@ use borrow.Author.Needs.{needs}
 use borrow.Author.Tests.{lt-leb, not-true, not-false}
 use Rattle.xdr.specs.Words.{word}
 use Rattle.rules.specs.Table.{recordsAt}
-use Rattle.theorems.proofs.Lines.{reached}
+use Rattle.records.proofs.NumberedLines.{reached}
 use Rattle.scans.proofs.Laws.{position-initial, position-low, position-message, position-found, position-none}
 use Rattle.scans.proofs.position.Statement.{statement}
 use Rattle.scans.proofs.position.Tie as tie

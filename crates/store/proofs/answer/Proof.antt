@@ -1,5 +1,5 @@
 use borrow.Author.Needs.{needs}
-use Rattle.xdr.proofs.Laws.{two-puts}
+use Rattle.xdr.proofs.Puts.{two-puts}
 use Rattle.store.proofs.answer.Statement.{statement}
 use Rattle.store.proofs.answer.Tie as tie
 

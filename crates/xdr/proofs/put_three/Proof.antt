@@ -1,5 +1,5 @@
 use borrow.Author.Needs.{needs}
-use Rattle.xdr.proofs.Laws.{three-puts}
+use Rattle.xdr.proofs.Puts.{three-puts}
 use Rattle.xdr.proofs.put_three.Statement.{statement}
 use Rattle.xdr.proofs.put_three.Tie as tie
 

@@ -1,6 +1,6 @@
 use native.Mathlib.Omega.{arith}
 use borrow.Author.Needs.{needs}
-use Rattle.xdr.proofs.Laws.{raw-zero}
+use Rattle.xdr.proofs.Words.{raw-zero}
 use Rattle.xdr.proofs.raw_pair.Statement.{statement}
 use Rattle.xdr.proofs.raw_pair.Tie as tie
 

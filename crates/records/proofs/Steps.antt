@@ -13,39 +13,14 @@ use borrow.Author.Tests.{ltb-false, leb-false, eqb-true, eqb-false, not-false}
 use Rattle.rules.specs.Records.{forced, History, State, history, hasSend, hasReceipt}
 use Rattle.rules.specs.Table.{fresh}
 use Rattle.rules.specs.Steps.{Call, checkpoint, send, receipt, forces, carries, grown, stepped}
-use Rattle.rules.specs.Calls.{Row, row, first, stepRows, needed}
+use Rattle.rules.specs.Calls.{first, stepRows, needed}
 use Rattle.rules.specs.Lists.{Entry, entry, check, accepts, after, run}
-use Rattle.theorems.proofs.Older.{Older, same, newer}
-use Rattle.theorems.proofs.Histories.{Test, passes, fails, test, holds-held, carried-older}
+use Rattle.basics.proofs.Older.{Older, same, newer}
+use Rattle.basics.proofs.Booleans.{Test, passes, fails, test, or-false}
+use Rattle.records.proofs.Histories.{holds-held, carried-older}
+use Rattle.records.proofs.Rows.{none-met}
 
 -- ---- rows
-
-abbrev pub NoneMet : List Row → Type 0
-NoneMet [] = Unit {0}
-NoneMet (row r m ∷ rs) = (m ≡ false) × NoneMet rs
-
-abbrev pub Numbered : List Row → Type 0
-Numbered [] = Unit {0}
-Numbered (row zero m ∷ rs) = ⊥
-Numbered (row (suc r) m ∷ rs) = Numbered rs
-
-pub none-met : (rs : List Row) → Numbered rs → first rs ≡ 0 → NoneMet rs
-none-met [] w e = tt
-none-met (row zero m ∷ rs) w e = absurd w
-none-met (row (suc r) true ∷ rs) w e = absurd (omega arith)
-none-met (row (suc r) false ∷ rs) w e = (refl, none-met rs w e)
-
-pub first-append : (rs qs : List Row) → NoneMet rs → first (rs ++ qs) ≡ first qs
-first-append [] qs m = refl
-first-append (row r b ∷ rs) qs m = rw (m .0) (first-append rs qs (m .1))
-
-pub first-none : (rs : List Row) → NoneMet rs → first rs ≡ 0
-first-none [] m = refl
-first-none (row r b ∷ rs) m = rw (m .0) (first-none rs (m .1))
-
-pub or-false : (a b : Bool) → (a || b) ≡ false → (a ≡ false) × (b ≡ false)
-or-false true b e = absurd (let z : _≡_ {A = ℕ} 0 1 = cc in omega arith)
-or-false false b e = (refl, e)
 
 -- the message that an accepted receipt takes
 abbrev pub Message : ℕ → State → ℕ → Call → Type 0

@@ -1,7 +1,7 @@
 -- A well laid table is the layout of the records that it holds; and how a section's words change when a record is added.
 use mathlib.Core.Path.{_≡_, refl, sym, ap, _∙_, subst}
 use mathlib.Core.Logic.{_≢_, _⊎_, inl, inr}
-use mathlib.Core.Bool.{Bool, true, false, not, _&&_, and-eq-true-iff}
+use mathlib.Core.Bool.{true, false, not, _&&_}
 use mathlib.Core.List.{List, [], _∷_, _++_, append-nil, append-assoc}
 use Prim.Native.Nat.{ℕ, zero, suc, _+_, _-_, _*_, _≤_, _<_, zero-le}
 use native.Mathlib.Nat.{zero-add, not-suc-le-zero, le-of-suc-le-suc}
@@ -12,11 +12,11 @@ use lib.ListN.{length, replicate, length-append, length-replicate, getD-replicat
 use borrow.Author.Tests.{eqb-false, ltb-true, not-true, eqb-true, leb-true}
 use Rattle.rules.specs.Records.{Event, History, State, history, number, sends}
 use Rattle.xdr.specs.Words.{word, bytes}
-use Rattle.rules.specs.Table.{recordWords, usedWords, sectionWords, sectionsWords, layout, eventOf, recordsAt, start, sectionAt, sectionsFrom, recordOk, recordsOk, zerosAt, sectionOk, sectionsOk, decoded, size}
-use Rattle.theorems.proofs.Histories.{Test, passes, fails, test}
-use Rattle.xdr.proofs.Laws.{Bytes, bytes-of}
-use Rattle.theorems.proofs.Words.{At, at-left, at-right, at-append}
-use Rattle.theorems.proofs.Laid.{Law, Legal, record-length, used-length, section-length, next, sections-length}
+use Rattle.rules.specs.Table.{heading, width, recordWords, usedWords, headingWords, sectionWords, sectionsWords, layout, eventOf, eventAt, recordsAt, start, sectionAt, sectionsFrom, recordOk, recordOkAt, recordsOk, zerosAt, sectionOk, sectionsOk, decoded, size}
+use Rattle.basics.proofs.Booleans.{Test, passes, fails, test, and-left, and-right}
+use Rattle.tables.proofs.Places.{At, at-left, at-right, at-append}
+use Rattle.tables.proofs.Laid.{Law, Legal, record-length, used-length, section-length, next, sections-length}
+use Rattle.xdr.proofs.Words.{Bytes, bytes-of}
 
 -- sections one after the other
 pub sections-join : (E : ℕ) (w : ℕ → ℕ) (s : State) (p : ℕ) → ((q : ℕ) → length (history s q) ≤ E)
@@ -42,7 +42,7 @@ is-layout n E s t b l z short first second a =
     at-append (word t) 0 (n ∷ E ∷ []) (sectionsWords E s) two (start E 0) (omega arith) c
     in
     let m = sections-length E s short in
-    let m′ : length (sectionsWords E s) ≡ n * (3 * (E + 1)) = m ∙ ap (λ (x : ℕ). x * (3 * (E + 1))) z in
+    let m′ : length (sectionsWords E s) ≡ n * (heading + width * E) = m ∙ ap (λ (x : ℕ). x * (heading + width * E)) z in
     bytes-of (n ∷ E ∷ sectionsWords E s) t (omega arith) b (λ i lt. ap (word t) (sym (zero-add i)) ∙ whole i lt)
   where
     two : At (word t) 0 (n ∷ E ∷ [])
@@ -52,20 +52,23 @@ is-layout n E s t b l z short first second a =
 
 -- ---- what the tests of a well laid table say
 
-pub and-left : (a b : Bool) → (a && b) ≡ true → a ≡ true
-and-left a b e = and-eq-true-iff a b .0 e .0
-
-pub and-right : (a b : Bool) → (a && b) ≡ true → b ≡ true
-and-right a b e = and-eq-true-iff a b .0 e .1
-
 pub records-length : (w : ℕ → ℕ) (at i : ℕ) → length (recordsAt w at i) ≡ i
 records-length w at zero = refl
 records-length w at (suc i) = ap suc (records-length w at i)
 
--- a record that passes its test has the words that it was read from, and is within its ranges
-pub record-read : (n E p kind a b : ℕ) (h : History) → recordOk n E p (sends h) kind a b ≡ true
+-- the words of the record that starts at word i
+abbrev wordsAt : (ℕ → ℕ) → ℕ → List ℕ
+wordsAt w i = w i ∷ w (i + 1) ∷ w (i + 2) ∷ []
+
+own-words : (w : ℕ → ℕ) (i : ℕ) → At w i (wordsAt w i)
+own-words w i zero lt = ap w (omega arith)
+own-words w i (suc zero) lt = refl
+own-words w i (suc (suc zero)) lt = refl
+own-words w i (suc (suc (suc j))) lt = absurd (omega arith)
+
+words-read : (n E p : ℕ) (h : History) (kind a b : ℕ) → recordOk n E p h kind a b ≡ true
     → (recordWords (eventOf kind a b) h ≡ kind ∷ a ∷ b ∷ []) × Law n E p (eventOf kind a b) h
-record-read n E p kind a b h ok = one (test (eqb kind 1)) (test (eqb kind 2)) (test (eqb kind 3)) (test (eqb kind 4))
+words-read n E p h kind a b ok = one (test (eqb kind 1)) (test (eqb kind 2)) (test (eqb kind 3)) (test (eqb kind 4))
   where
     -- a checkpoint
     saves : (leb a (n * E) && eqb b 0) ≡ true → (a ≤ n * E) × (b ≡ 0)
@@ -102,29 +105,24 @@ record-read n E p kind a b h ok = one (test (eqb kind 1)) (test (eqb kind 2)) (t
         let o : false ≡ true = rw (e, y, z, u) at ok in
         absurd (let x : _≡_ {A = ℕ} 0 1 = cc in omega arith)
 
+-- a record that passes its test has the words that it was read from, and is within its ranges
+pub record-read : (n E p : ℕ) (w : ℕ → ℕ) (i : ℕ) (h : History) → recordOkAt n E p h w i ≡ true
+    → (recordWords (eventAt w i) h ≡ wordsAt w i) × Law n E p (eventAt w i) h
+record-read n E p w i h ok = words-read n E p h (w i) (w (i + 1)) (w (i + 2)) ok
+
 used-of : (n E : ℕ) (w : ℕ → ℕ) (p at i : ℕ) → recordsOk n E w p at i ≡ true → At w at (usedWords (recordsAt w at i))
 used-of n E w p at zero ok = λ j lt. absurd (not-suc-le-zero lt)
 used-of n E w p at (suc i) ok =
-    at-append w at (usedWords h) (recordWords e h)
-    (used-of n E w p at i (and-left (recordsOk n E w p at i) (recordOk n E p (sends h) (w k) (w (k + 1)) (w (k + 2))) ok))
+    at-append w at (usedWords h) (recordWords (eventAt w k) h)
+    (used-of n E w p at i (and-left (recordsOk n E w p at i) (recordOkAt n E p h w k) ok))
     k (let l = used-length h in let m = records-length w at i in omega arith)
-    (rw (record-read n E p (w k) (w (k + 1)) (w (k + 2)) h
-    (and-right (recordsOk n E w p at i) (recordOk n E p (sends h) (w k) (w (k + 1)) (w (k + 2))) ok) .0) three)
+    (rw (record-read n E p w k h (and-right (recordsOk n E w p at i) (recordOkAt n E p h w k) ok) .0) (own-words w k))
   where
     h : History
     h = recordsAt w at i
 
     k : ℕ
-    k = at + 3 * i
-
-    e : Event
-    e = eventOf (w k) (w (k + 1)) (w (k + 2))
-
-    three : At w k (w k ∷ w (k + 1) ∷ w (k + 2) ∷ [])
-    three zero lt = ap w (omega arith)
-    three (suc zero) lt = refl
-    three (suc (suc zero)) lt = refl
-    three (suc (suc (suc j))) lt = absurd (omega arith)
+    k = at + width * i
 
 zeros-of : (w : ℕ → ℕ) (at m : ℕ) → zerosAt w at m ≡ true → (j : ℕ) → j < m → w (at + j) ≡ 0
 zeros-of w at zero ok j lt = absurd (not-suc-le-zero lt)
@@ -136,16 +134,16 @@ zeros-of w at (suc m) ok j lt = go (decLt j m) (zeros-of w at m (and-left (zeros
 
 -- a section from its words
 pub section-words : (E : ℕ) (w : ℕ → ℕ) (at : ℕ) (h : History) → length h ≤ E → w at ≡ length h → w (at + 1) ≡ number h → w (at + 2) ≡ sends h
-    → At w (at + 3) (usedWords h) → ((j : ℕ) → j < 3 * (E - length h) → w (at + 3 + 3 * length h + j) ≡ 0) → At w at (sectionWords E h)
+    → At w (at + heading) (usedWords h) → ((j : ℕ) → j < width * (E - length h) → w (at + heading + width * length h + j) ≡ 0) → At w at (sectionWords E h)
 section-words E w at h le a b c used zeros =
-    at-append w at (length h ∷ number h ∷ sends h ∷ []) (usedWords h ++ replicate m 0) three (at + 3) refl
-    (at-append w (at + 3) (usedWords h) (replicate m 0) used (at + 3 + 3 * length h) (let l = used-length h in omega arith)
+    at-append w at (headingWords h) (usedWords h ++ replicate m 0) three (at + heading) refl
+    (at-append w (at + heading) (usedWords h) (replicate m 0) used (at + heading + width * length h) (let l = used-length h in omega arith)
     (λ j lt. let lt′ : j < m = subst (λ (x : ℕ). j < x) (length-replicate {A = ℕ} m 0) lt in zeros j lt′ ∙ sym (getD-replicate m j 0 0 lt′)))
   where
     m : ℕ
-    m = 3 * (E - length h)
+    m = width * (E - length h)
 
-    three : At w at (length h ∷ number h ∷ sends h ∷ [])
+    three : At w at (headingWords h)
     three zero lt = ap w (omega arith) ∙ a
     three (suc zero) lt = b
     three (suc (suc zero)) lt = c
@@ -154,10 +152,10 @@ section-words E w at h le a b c used zeros =
 records-legal : (n E : ℕ) (w : ℕ → ℕ) (p at i : ℕ) → recordsOk n E w p at i ≡ true → Legal n E p (recordsAt w at i)
 records-legal n E w p at zero ok = tt
 records-legal n E w p at (suc i) ok =
-    let k = at + 3 * i in
+    let k = at + width * i in
     let h = recordsAt w at i in
-    let t = recordOk n E p (sends h) (w k) (w (k + 1)) (w (k + 2)) in (
-      record-read n E p (w k) (w (k + 1)) (w (k + 2)) h (and-right (recordsOk n E w p at i) t ok) .1,
+    let t = recordOkAt n E p h w k in (
+      record-read n E p w k h (and-right (recordsOk n E w p at i) t ok) .1,
       records-legal n E w p at i (and-left (recordsOk n E w p at i) t ok),
     )
 
@@ -171,16 +169,16 @@ pub section-of : (n E : ℕ) (w : ℕ → ℕ) (p : ℕ) → sectionOk n E w p �
 section-of n E w p ok =
     let at = start E p in
     let c = w at in
-    let h = recordsAt w (at + 3) c in
+    let h = recordsAt w (at + heading) c in
     let t1 = leb c E in
-    let t2 = recordsOk n E w p (at + 3) c in
+    let t2 = recordsOk n E w p (at + heading) c in
     let t3 = eqb (w (at + 1)) (number h) in
     let t4 = eqb (w (at + 2)) (sends h) in
-    let t5 = zerosAt w (at + 3 + 3 * c) (3 * (E - c)) in
+    let t5 = zerosAt w (at + heading + width * c) (width * (E - c)) in
     let o4 = and-left (t1 && t2 && t3 && t4) t5 ok in
     let o3 = and-left (t1 && t2 && t3) t4 o4 in
     let o2 = and-left (t1 && t2) t3 o3 in
-    let l : length h ≡ c = records-length w (at + 3) c in
+    let l : length h ≡ c = records-length w (at + heading) c in
     let le : c ≤ E = leb-true c E (and-left t1 t2 o2) in
     let le′ : length h ≤ E = omega arith in
     let ok′ = and-right t1 t2 o2 in
@@ -189,9 +187,9 @@ section-of n E w p ok =
       words = section-words E w at h le′ (sym l)
           (eqb-true (w (at + 1)) (number h) (and-right (t1 && t2) t3 o3))
           (eqb-true (w (at + 2)) (sends h) (and-right (t1 && t2 && t3) t4 o4))
-          (used-of n E w p (at + 3) c ok′)
-          (rw l (zeros-of w (at + 3 + 3 * c) (3 * (E - c)) (and-right (t1 && t2 && t3 && t4) t5 ok)));
-      legal = records-legal n E w p (at + 3) c ok′;
+          (used-of n E w p (at + heading) c ok′)
+          (rw l (zeros-of w (at + heading + width * c) (width * (E - c)) (and-right (t1 && t2 && t3 && t4) t5 ok)));
+      legal = records-legal n E w p (at + heading) c ok′;
     }
 
 pub sections-each : (n E : ℕ) (w : ℕ → ℕ) (m : ℕ) → sectionsOk n E w m ≡ true → (p : ℕ) → p < m → sectionOk n E w p ≡ true
@@ -269,7 +267,7 @@ used-append [] h = sym (append-nil (usedWords h))
 used-append (e ∷ es) h =
     ap (λ (x : List ℕ). x ++ recordWords e (es ++ h)) (used-append es h) ∙ append-assoc (usedWords h) (addedWords es h) (recordWords e (es ++ h))
 
-pub added-length : (es h : History) → length (addedWords es h) ≡ 3 * length es
+pub added-length : (es h : History) → length (addedWords es h) ≡ width * length es
 added-length [] h = refl
 added-length (e ∷ es) h =
     length-append (addedWords es h) (recordWords e (es ++ h)) ∙ (let a = added-length es h in let b = record-length e (es ++ h) in omega arith)
@@ -277,36 +275,36 @@ added-length (e ∷ es) h =
 -- The words of a section after more records, from those before: only the three at the section's start and those of the records change.
 pub section-grown : (E : ℕ) (w v : ℕ → ℕ) (at : ℕ) (h es : History) → length es + length h ≤ E → At w at (sectionWords E h)
     → v at ≡ length es + length h → v (at + 1) ≡ number (es ++ h) → v (at + 2) ≡ sends (es ++ h)
-    → At v (at + 3 + 3 * length h) (addedWords es h)
-    → ((i : ℕ) → at + 3 ≤ i → (i < at + 3 + 3 * length h) ⊎ (at + 3 + 3 * length h + 3 * length es ≤ i) → v i ≡ w i)
+    → At v (at + heading + width * length h) (addedWords es h)
+    → ((i : ℕ) → at + heading ≤ i → (i < at + heading + width * length h) ⊎ (at + heading + width * length h + width * length es ≤ i) → v i ≡ w i)
     → At v at (sectionWords E (es ++ h))
 section-grown E w v at h es le a x y z added same =
     section-words E v at (es ++ h) (let l = total in omega arith) (x ∙ sym total) y z
-    (subst (At v (at + 3)) (sym (used-append es h))
-    (at-append v (at + 3) (usedWords h) (addedWords es h)
-    (λ j l. same (at + 3 + j) (omega arith) (inl (let u = used-length h in omega arith)) ∙ used j l)
-    (at + 3 + 3 * length h) (let u = used-length h in omega arith) added))
-    (λ j l. same (at + 3 + 3 * length (es ++ h) + j) (omega arith) (inr (let u = total in omega arith)) ∙ zeros j l)
+    (subst (At v (at + heading)) (sym (used-append es h))
+    (at-append v (at + heading) (usedWords h) (addedWords es h)
+    (λ j l. same (at + heading + j) (omega arith) (inl (let u = used-length h in omega arith)) ∙ used j l)
+    (at + heading + width * length h) (let u = used-length h in omega arith) added))
+    (λ j l. same (at + heading + width * length (es ++ h) + j) (omega arith) (inr (let u = total in omega arith)) ∙ zeros j l)
   where
     total : length (es ++ h) ≡ length es + length h
     total = length-append es h
 
     m : ℕ
-    m = 3 * (E - length h)
+    m = width * (E - length h)
 
-    rest : At w (at + 3) (usedWords h ++ replicate m 0)
-    rest = at-right w at (length h ∷ number h ∷ sends h ∷ []) (usedWords h ++ replicate m 0) a (at + 3) refl
+    rest : At w (at + heading) (usedWords h ++ replicate m 0)
+    rest = at-right w at (headingWords h) (usedWords h ++ replicate m 0) a (at + heading) refl
 
-    used : At w (at + 3) (usedWords h)
-    used = at-left w (at + 3) (usedWords h) (replicate m 0) rest
+    used : At w (at + heading) (usedWords h)
+    used = at-left w (at + heading) (usedWords h) (replicate m 0) rest
 
-    after : At w (at + 3 + 3 * length h) (replicate m 0)
-    after = at-right w (at + 3) (usedWords h) (replicate m 0) rest (at + 3 + 3 * length h) (let u = used-length h in omega arith)
+    after : At w (at + heading + width * length h) (replicate m 0)
+    after = at-right w (at + heading) (usedWords h) (replicate m 0) rest (at + heading + width * length h) (let u = used-length h in omega arith)
 
-    zeros : (j : ℕ) → j < 3 * (E - length (es ++ h)) → w (at + 3 + 3 * length (es ++ h) + j) ≡ 0
+    zeros : (j : ℕ) → j < width * (E - length (es ++ h)) → w (at + heading + width * length (es ++ h) + j) ≡ 0
     zeros j l =
         let u = total in
-        let i = j + 3 * length es in
+        let i = j + width * length es in
         let k : i < m = omega arith in
         let k′ : i < length (replicate {A = ℕ} m 0) = subst (λ (x : ℕ). i < x) (sym (length-replicate {A = ℕ} m 0)) k in
-        ap w (let e : at + 3 + 3 * length (es ++ h) + j ≡ at + 3 + 3 * length h + i = omega arith in e) ∙ after i k′ ∙ getD-replicate m i 0 0 k
+        ap w (let e : at + heading + width * length (es ++ h) + j ≡ at + heading + width * length h + i = omega arith in e) ∙ after i k′ ∙ getD-replicate m i 0 0 k

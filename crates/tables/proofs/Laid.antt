@@ -10,12 +10,12 @@ use lib.ListN.{length, getD, replicate, length-append, length-replicate, getD-re
 use borrow.Author.Tests.{lt-ltb, le-leb, eq-eqb, ne-eqb}
 use Rattle.rules.specs.Records.{Event, basic, forced, sent, received, History, State, history, number, sends}
 use Rattle.xdr.specs.Words.{word}
-use Rattle.rules.specs.Table.{recordWords, usedWords, sectionWords, sectionsWords, layout, eventOf, recordsAt, start, sectionAt, sectionsFrom, recordOk, recordsOk, zerosAt, sectionOk, sectionsOk, decoded, size}
-use Rattle.theorems.proofs.Older.{Older, same, newer, older-trans}
-use Rattle.theorems.proofs.Histories.{holds-held, sends-older, Each, each-older, rising-older}
-use Rattle.theorems.proofs.Made.{Source, Name, Made, number-le}
-use Rattle.xdr.proofs.Laws.{Small, word-bytes, bytes-length}
-use Rattle.theorems.proofs.Words.{At, at-word, at-left, at-right}
+use Rattle.rules.specs.Table.{heading, width, recordWords, usedWords, headingWords, sectionWords, sectionsWords, layout, eventAt, recordsAt, start, sectionAt, sectionsFrom, recordOkAt, recordsOk, zerosAt, sectionOk, sectionsOk, decoded, size}
+use Rattle.basics.proofs.Older.{Older, same, newer, older-trans}
+use Rattle.records.proofs.Histories.{holds-held, sends-older, Each, each-older, rising-older}
+use Rattle.records.proofs.Made.{Source, Name, Made, number-le}
+use Rattle.tables.proofs.Places.{At, at-word, at-left, at-right}
+use Rattle.xdr.proofs.Words.{Small, small-append, small-at, small-zeros, word-bytes, bytes-length}
 
 -- ---- the records of a made state are within their ranges
 
@@ -63,55 +63,67 @@ module _ (n E : ℕ) (s : State) (M : Made n E s) where
 
 -- ---- reading records back
 
-pub record-length : (e : Event) (h : History) → length (recordWords e h) ≡ 3
+pub record-length : (e : Event) (h : History) → length (recordWords e h) ≡ width
 record-length (basic m) h = refl
 record-length (forced m) h = refl
 record-length (sent q) h = refl
 record-length (received q k) h = refl
 
-pub used-length : (h : History) → length (usedWords h) ≡ 3 * length h
+pub used-length : (h : History) → length (usedWords h) ≡ width * length h
 used-length [] = refl
 used-length (e ∷ h) = length-append (usedWords h) (recordWords e h) ∙ (let r = used-length h in let z = record-length e h in omega arith)
 
--- the three words of a record at place i
-abbrev Three : (ℕ → ℕ) → ℕ → Event → History → Type 0
-Three w i e h = (w i ≡ getD (recordWords e h) 0 0) × (w (i + 1) ≡ getD (recordWords e h) 1 0) × (w (i + 2) ≡ getD (recordWords e h) 2 0)
+-- the words of the newest record
+newest-at : (w : ℕ → ℕ) (at : ℕ) (e : Event) (h : History) → At w at (usedWords (e ∷ h)) → At w (at + width * length h) (recordWords e h)
+newest-at w at e h a = at-right w at (usedWords h) (recordWords e h) a (at + width * length h) (let l = used-length h in omega arith)
 
-three-at : (w : ℕ → ℕ) (at : ℕ) (e : Event) (h : History) → At w at (usedWords (e ∷ h)) → Three w (at + 3 * length h) e h
-three-at w at e h a =
-    let i = at + 3 * length h in
-    let r : At w i (recordWords e h) = at-right w at (usedWords h) (recordWords e h) a i (let l = used-length h in omega arith) in
-    let l = record-length e h in
-    (at-word w i (recordWords e h) r 0 i (omega arith) (omega arith), r 1 (omega arith), r 2 (omega arith))
+first-at : (w : ℕ → ℕ) (i : ℕ) (xs : List ℕ) → 0 < length xs → At w i xs → w i ≡ getD xs 0 0
+first-at w i xs some a = at-word w i xs a 0 i some (omega arith)
 
-event-words : (e : Event) (h : History) → eventOf (getD (recordWords e h) 0 0) (getD (recordWords e h) 1 0) (getD (recordWords e h) 2 0) ≡ e
-event-words (basic m) h = refl
-event-words (forced m) h = refl
-event-words (sent q) h = refl
-event-words (received q k) h = refl
+event-at : (w : ℕ → ℕ) (i : ℕ) (e : Event) (h : History) → At w i (recordWords e h) → eventAt w i ≡ e
+event-at w i (basic m) h a = rw (first-at w i (recordWords (basic m) h) (omega arith) a, a 1 (omega arith))
+event-at w i (forced m) h a = rw (first-at w i (recordWords (forced m) h) (omega arith) a, a 1 (omega arith))
+event-at w i (sent q) h a = rw (first-at w i (recordWords (sent q) h) (omega arith) a, a 1 (omega arith))
+event-at w i (received q k) h a = rw (first-at w i (recordWords (received q k) h) (omega arith) a, a 1 (omega arith), a 2 (omega arith))
 
 pub records-at : (w : ℕ → ℕ) (at : ℕ) (h : History) → At w at (usedWords h) → recordsAt w at (length h) ≡ h
 records-at w at [] a = refl
 records-at w at (e ∷ h) a =
-    let t = three-at w at e h a in
-    rw (t .1, t .2, t .0, event-words e h, records-at w at h (at-left w at (usedWords h) (recordWords e h) a))
+    ap₂ (λ (x : Event) (xs : History). x ∷ xs) (event-at w (at + width * length h) e h (newest-at w at e h a))
+    (records-at w at h (at-left w at (usedWords h) (recordWords e h) a))
 
 -- ---- records are well laid
 
-record-ok : (n E p : ℕ) (e : Event) (h : History) → Law n E p e h
-    → recordOk n E p (sends h) (getD (recordWords e h) 0 0) (getD (recordWords e h) 1 0) (getD (recordWords e h) 2 0) ≡ true
-record-ok n E p (basic m) h L = rw (le-leb m (n * E) L)
-record-ok n E p (forced m) h L = rw (le-leb m (n * E) L)
-record-ok n E p (sent q) h L =
-    rw (lt-ltb q n (L .0), ne-eqb q p (L .1), lt-ltb 0 (suc (sends h)) (omega arith), le-leb (suc (sends h)) E (L .2), eq-eqb (suc (sends h)) (suc (sends h)) refl)
-record-ok n E p (received q k) h L = rw (lt-ltb q n (L .0), ne-eqb q p (L .1), lt-ltb 0 k (L .2), le-leb k E (L .3))
+record-ok : (n E p : ℕ) (w : ℕ → ℕ) (i : ℕ) (e : Event) (h : History) → At w i (recordWords e h) → Law n E p e h → recordOkAt n E p h w i ≡ true
+record-ok n E p w i (basic m) h a L = rw (first-at w i (recordWords (basic m) h) (omega arith) a, a 1 (omega arith), a 2 (omega arith), le-leb m (n * E) L)
+record-ok n E p w i (forced m) h a L = rw (first-at w i (recordWords (forced m) h) (omega arith) a, a 1 (omega arith), a 2 (omega arith), le-leb m (n * E) L)
+record-ok n E p w i (sent q) h a L =
+    rw (
+      first-at w i (recordWords (sent q) h) (omega arith) a,
+      a 1 (omega arith),
+      a 2 (omega arith),
+      lt-ltb q n (L .0),
+      ne-eqb q p (L .1),
+      lt-ltb 0 (suc (sends h)) (omega arith),
+      le-leb (suc (sends h)) E (L .2),
+      eq-eqb (suc (sends h)) (suc (sends h)) refl,
+    )
+record-ok n E p w i (received q k) h a L =
+    rw (
+      first-at w i (recordWords (received q k) h) (omega arith) a,
+      a 1 (omega arith),
+      a 2 (omega arith),
+      lt-ltb q n (L .0),
+      ne-eqb q p (L .1),
+      lt-ltb 0 k (L .2),
+      le-leb k E (L .3),
+    )
 
 records-ok : (n E : ℕ) (w : ℕ → ℕ) (p at : ℕ) (h : History) → At w at (usedWords h) → Legal n E p h → recordsOk n E w p at (length h) ≡ true
 records-ok n E w p at [] a L = refl
 records-ok n E w p at (e ∷ h) a L =
-    let t = three-at w at e h a in
     let b = at-left w at (usedWords h) (recordWords e h) a in
-    rw (records-ok n E w p at h b (L .1), t .1, t .2, t .0, records-at w at h b) (record-ok n E p e h (L .0))
+    rw (records-ok n E w p at h b (L .1), records-at w at h b) (record-ok n E p w (at + width * length h) e h (newest-at w at e h a) (L .0))
 
 zeros-at : (w : ℕ → ℕ) (at m : ℕ) → ((j : ℕ) → j < m → w (at + j) ≡ 0) → zerosAt w at m ≡ true
 zeros-at w at zero z = refl
@@ -119,11 +131,11 @@ zeros-at w at (suc m) z = rw (zeros-at w at m (λ j lt. z j (omega arith)), eq-e
 
 -- ---- sections
 
-pub section-length : (E : ℕ) (h : History) → length h ≤ E → length (sectionWords E h) ≡ 3 * (E + 1)
+pub section-length : (E : ℕ) (h : History) → length h ≤ E → length (sectionWords E h) ≡ heading + width * E
 section-length E h le =
-    let a = length-append (usedWords h) (replicate (3 * (E - length h)) 0) in
+    let a = length-append (usedWords h) (replicate (width * (E - length h)) 0) in
     let b = used-length h in
-    let c = length-replicate {A = ℕ} (3 * (E - length h)) 0 in
+    let c = length-replicate {A = ℕ} (width * (E - length h)) 0 in
     omega arith
 
 module _ (n E : ℕ) (w : ℕ → ℕ) (p : ℕ) (h : History) (le : length h ≤ E) (a : At w (start E p) (sectionWords E h)) where
@@ -136,35 +148,35 @@ module _ (n E : ℕ) (w : ℕ → ℕ) (p : ℕ) (h : History) (le : length h �
   sends-at : w (start E p + 2) ≡ sends h
   sends-at = a 2 (omega arith)
 
-  rest-at : At w (start E p + 3) (usedWords h ++ replicate (3 * (E - length h)) 0)
-  rest-at = at-right w (start E p) (length h ∷ number h ∷ sends h ∷ []) (usedWords h ++ replicate (3 * (E - length h)) 0) a (start E p + 3) refl
+  rest-at : At w (start E p + heading) (usedWords h ++ replicate (width * (E - length h)) 0)
+  rest-at = at-right w (start E p) (headingWords h) (usedWords h ++ replicate (width * (E - length h)) 0) a (start E p + heading) refl
 
-  used-at : At w (start E p + 3) (usedWords h)
-  used-at = at-left w (start E p + 3) (usedWords h) (replicate (3 * (E - length h)) 0) rest-at
+  used-at : At w (start E p + heading) (usedWords h)
+  used-at = at-left w (start E p + heading) (usedWords h) (replicate (width * (E - length h)) 0) rest-at
 
   section-at : sectionAt w E p ≡ h
-  section-at = rw count-at (records-at w (start E p + 3) h used-at)
+  section-at = rw count-at (records-at w (start E p + heading) h used-at)
 
   section-ok : Legal n E p h → sectionOk n E w p ≡ true
   section-ok L =
-      let m = 3 * (E - length h) in
-      let z : At w (start E p + 3 + 3 * length h) (replicate m 0) =
-      at-right w (start E p + 3) (usedWords h) (replicate m 0) rest-at (start E p + 3 + 3 * length h) (let l = used-length h in omega arith)
+      let m = width * (E - length h) in
+      let z : At w (start E p + heading + width * length h) (replicate m 0) =
+      at-right w (start E p + heading) (usedWords h) (replicate m 0) rest-at (start E p + heading + width * length h) (let l = used-length h in omega arith)
       in
-      let y = zeros-at w (start E p + 3 + 3 * length h) m
+      let y = zeros-at w (start E p + heading + width * length h) m
       (λ j lt. z j (subst (λ (x : ℕ). j < x) (sym (length-replicate {A = ℕ} m 0)) lt) ∙ getD-replicate m j 0 0 lt) in
       rw (
         count-at,
         number-at,
         sends-at,
-        records-at w (start E p + 3) h used-at,
-        records-ok n E w p (start E p + 3) h used-at L,
+        records-at w (start E p + heading) h used-at,
+        records-ok n E w p (start E p + heading) h used-at L,
         le-leb (length h) E le,
         eq-eqb (number h) (number h) refl,
         eq-eqb (sends h) (sends h) refl,
       ) y
 
-pub next : (E p : ℕ) → start E (suc p) ≡ start E p + 3 * (E + 1)
+pub next : (E p : ℕ) → start E (suc p) ≡ start E p + (heading + width * E)
 next E p = omega arith
 
 -- section r of a list of sections that begins with section p
@@ -190,13 +202,13 @@ sections-read E w (h ∷ s) p short a =
     (at-right w (start E p) (sectionWords E h) (sectionsWords E s) a (start E (suc p))
     (next E p ∙ ap (λ (x : ℕ). start E p + x) (sym (section-length E h (short 0))))))
 
-pub sections-length : (E : ℕ) (s : State) → ((q : ℕ) → length (history s q) ≤ E) → length (sectionsWords E s) ≡ length s * (3 * (E + 1))
+pub sections-length : (E : ℕ) (s : State) → ((q : ℕ) → length (history s q) ≤ E) → length (sectionsWords E s) ≡ length s * (heading + width * E)
 sections-length E [] short = omega arith
 sections-length E (h ∷ s) short =
     let a = sections-length E s (λ q. short (suc q)) in
     let b = section-length E h (short 0) in
     let c = length-append (sectionWords E h) (sectionsWords E s) in
-    let d = suc-mul (length s) (3 * (E + 1)) in
+    let d = suc-mul (length s) (heading + width * E) in
     c ∙ ap₂ (λ (x y : ℕ). x + y) b a ∙ (omega arith)
 
 sections-ok : (n E : ℕ) (w : ℕ → ℕ) (s : State) → ((q : ℕ) → length (history s q) ≤ E) → ((p : ℕ) → Legal n E p (history s p))
@@ -207,19 +219,6 @@ sections-ok n E w s short L a (suc p) le =
     rw (sections-ok n E w s short L a p (omega arith)) (section-ok n E w p (history s p) (short p) b (L p))
 
 -- ---- words fit
-
-pub small-append : (xs ys : List ℕ) → Small xs → Small ys → Small (xs ++ ys)
-small-append [] ys a b = b
-small-append (x ∷ xs) ys a b = (a .0, small-append xs ys (a .1) b)
-
-small-at : (xs : List ℕ) → Small xs → (j : ℕ) → getD xs j 0 < 4294967296
-small-at [] a j = omega arith
-small-at (x ∷ xs) a zero = a .0
-small-at (x ∷ xs) a (suc j) = small-at xs (a .1) j
-
-small-zeros : (m : ℕ) → Small (replicate m 0)
-small-zeros zero = tt
-small-zeros (suc m) = (omega arith, small-zeros m)
 
 small-record : (n E p : ℕ) → n ≤ 16 → E ≤ 1024 → n * E ≤ 16384 → (e : Event) (h : History) → Law n E p e h → Small (recordWords e h)
 small-record n E p a b c (basic m) h L = omega arith
@@ -245,7 +244,7 @@ small-sections n E a b c (h ∷ s) p short num L =
         omega arith,
         (
           omega arith,
-          small-append (usedWords h) (replicate (3 * (E - length h)) 0) (small-used n E (p + 0) a b c h (L 0)) (small-zeros (3 * (E - length h))),
+          small-append (usedWords h) (replicate (width * (E - length h)) 0) (small-used n E (p + 0) a b c h (L 0)) (small-zeros (width * (E - length h))),
         ),
       ),
     )
@@ -298,7 +297,7 @@ module _ (n E : ℕ) (d : InRange n E) (s : State) (M : Made n E s) where
       let a = bytes-length words in
       let b = sections-length E s (M .short) in
       let c = M .size in
-      let e : length (sectionsWords E s) ≡ n * (3 * (E + 1)) = b ∙ ap (λ (x : ℕ). x * (3 * (E + 1))) c in
+      let e : length (sectionsWords E s) ≡ n * (heading + width * E) = b ∙ ap (λ (x : ℕ). x * (heading + width * E)) c in
       omega arith
 
   pub layout-ok : sectionsOk n E (word (layout n E s)) n ≡ true

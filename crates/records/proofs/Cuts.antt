@@ -10,22 +10,11 @@ use lib.Dec.{leb, eqb}
 use lib.ListN.{length}
 use borrow.Author.Tests.{leb-true, leb-false, eqb-true, eq-eqb, ne-eqb}
 use Rattle.rules.specs.Records.{Event, History}
-use Rattle.rules.specs.Lines.{upto, isCheckpoint, saved, permitted, lastSaved, any, before, lowered, top}
-use Rattle.theorems.proofs.Older.{Older, same, newer, older-trans, older-length}
-use Rattle.theorems.proofs.Histories.{Test, passes, fails, test}
-use Rattle.theorems.proofs.Steps.{or-false}
-use Rattle.theorems.proofs.Lines.{upto-older}
-
-pub true-or : (a b : Bool) → (a || b) ≡ true → (a ≡ true) ⊎ (b ≡ true)
-true-or true b e = inl refl
-true-or false b e = inr e
-
-pub or-right : (a b : Bool) → b ≡ true → (a || b) ≡ true
-or-right true b e = refl
-or-right false b e = e
-
-pub clash : {A : Type 0} (b : Bool) → b ≡ true → b ≡ false → A
-clash b t f = absurd (let z : _≡_ {A = ℕ} 0 1 = cc in omega arith)
+use Rattle.rules.specs.Lines.{upto, isCheckpoint, saved, permitted}
+use Rattle.rules.specs.FailureLine.{lastSaved, any, before, lowered, top}
+use Rattle.basics.proofs.Older.{Older, same, newer, older-trans, older-length}
+use Rattle.basics.proofs.Booleans.{Test, passes, fails, test, or-false, clash, true-or, or-right}
+use Rattle.records.proofs.NumberedLines.{upto-older}
 
 -- ---- the first t records
 

@@ -1,17 +1,13 @@
--- The mask of the processes that go back: its bits, and how many ones it has.
+-- A mask that has the bits for which a test holds: its size, its bits, and its ones.
 use mathlib.Core.Path.{_≡_, ap, _∙_}
 use mathlib.Core.Bool.{Bool, true, false, cond}
-use mathlib.Core.List.{List}
 use Prim.Native.Nat.{ℕ, zero, suc, _+_, _*_, _/_, _%_, _^_, _<_}
 use native.Mathlib.Nat.{pow-suc, pow-le-pow-right, mul-right-comm, add-mul-div-right, add-mul-mod-self-right, div-eq-of-lt}
 use native.Mathlib.Omega.{arith}
 use native.Mathlib.Decide.{decLt}
 use lib.Dec.{eqb}
-use lib.ListN.{getD}
-use lib.Count.{ones, ones-cat, ones-ones, ones-le}
-use Rattle.rules.specs.Records.{State, history}
-use Rattle.rules.specs.Lines.{failed, goesBack, backBelow}
-use Rattle.theorems.specs.Latest.{howMany}
+use lib.Count.{ones, ones-cat, ones-ones}
+use Rattle.rules.specs.Lines.{failed, maskBelow}
 
 pub two-positive : (p : ℕ) → 0 < 2 ^ p
 two-positive p = pow-le-pow-right {n = 2} (omega arith) {i = 0} {j = p} (omega arith)
@@ -55,25 +51,21 @@ bit-at m n lt =
 bit-none : (m n : ℕ) → m < 2 ^ n → failed m n ≡ false
 bit-none m n lt = ap (λ (x : ℕ). eqb (x % 2) 1) (div-eq-of-lt {n = m} {m = 2 ^ n} lt)
 
-module _ (s : State) (cut : List ℕ) where
-  -- process p goes back
-  abbrev back : ℕ → Bool
-  back p = goesBack (history s p) (getD cut p 0)
-
-  pub mask-lt : (n : ℕ) → backBelow s cut n < 2 ^ n
+module _ (f : ℕ → Bool) where
+  pub mask-lt : (n : ℕ) → maskBelow f n < 2 ^ n
   mask-lt zero = omega arith
-  mask-lt (suc n) = rw (pow-suc 2 n) (go (back n) (mask-lt n))
+  mask-lt (suc n) = rw (pow-suc 2 n) (go (f n) (mask-lt n))
     where
-      go : (b : Bool) → backBelow s cut n < 2 ^ n → backBelow s cut n + cond b (2 ^ n) 0 < 2 ^ n * 2
+      go : (b : Bool) → maskBelow f n < 2 ^ n → maskBelow f n + cond b (2 ^ n) 0 < 2 ^ n * 2
       go true l = omega arith
       go false l = omega arith
 
-  pub mask-bits : (n p : ℕ) → p < n → failed (backBelow s cut n) p ≡ back p
+  pub mask-bits : (n p : ℕ) → p < n → failed (maskBelow f n) p ≡ f p
   mask-bits zero p lt = absurd (omega arith)
   mask-bits (suc n) p lt = go (decLt p n) (mask-bits n p)
     where
       m : ℕ
-      m = backBelow s cut n
+      m = maskBelow f n
 
       same : (b : Bool) → p < n → failed (m + cond b (2 ^ n) 0) p ≡ failed m p
       same true l = bit-below m n p l
@@ -83,20 +75,20 @@ module _ (s : State) (cut : List ℕ) where
       last true = bit-at m n (mask-lt n)
       last false = ap (λ (x : ℕ). failed x n) (let e : m + 0 ≡ m = omega arith in e) ∙ bit-none m n (mask-lt n)
 
-      go : Dec (p < n) → (p < n → failed m p ≡ back p) → failed (m + cond (back n) (2 ^ n) 0) p ≡ back p
-      go (yes l) f = same (back n) l ∙ f l
-      go (no l) f = let e : p ≡ n = omega arith in rw e (last (back n))
+      go : Dec (p < n) → (p < n → failed m p ≡ f p) → failed (m + cond (f n) (2 ^ n) 0) p ≡ f p
+      go (yes l) r = same (f n) l ∙ r l
+      go (no l) r = let e : p ≡ n = omega arith in rw e (last (f n))
 
-  pub mask-ones : (n : ℕ) → ones (backBelow s cut n) ≡ howMany s cut n
-  mask-ones zero = let l = ones-le 0 0 (omega arith) in omega arith
-  mask-ones (suc n) = go (back n) (mask-lt n) (mask-ones n)
+  -- the ones of a mask with one test more
+  pub mask-ones : (n : ℕ) → ones (maskBelow f (suc n)) ≡ ones (maskBelow f n) + cond (f n) 1 0
+  mask-ones n = go (f n) (mask-lt n)
     where
       m : ℕ
-      m = backBelow s cut n
+      m = maskBelow f n
 
-      go : (b : Bool) → m < 2 ^ n → ones m ≡ howMany s cut n → ones (m + cond b (2 ^ n) 0) ≡ howMany s cut n + cond b 1 0
-      go true l e =
+      go : (b : Bool) → m < 2 ^ n → ones (m + cond b (2 ^ n) 0) ≡ ones m + cond b 1 0
+      go true l =
           let h : m + 2 ^ n ≡ 1 * 2 ^ n + m = omega arith in
           let o = ones-ones 1 in
           ap ones h ∙ ones-cat n 1 m l ∙ (omega arith)
-      go false l e = let h : m + 0 ≡ m = omega arith in let k : howMany s cut n + 0 ≡ howMany s cut n = omega arith in rw (h, k) e
+      go false l = let h : m + 0 ≡ m = omega arith in let k : ones m + 0 ≡ ones m = omega arith in rw (h, k)

@@ -1,45 +1,28 @@
 -- What a call may take from the rows that it has passed, and an outcome from its parts.
-use mathlib.Core.Path.{_≡_, refl, sym, ap, _∙_}
-use mathlib.Core.Logic.{_≢_}
-use mathlib.Core.Bool.{Bool, true, false, not}
-use mathlib.Core.List.{List, [], _∷_, _++_}
-use Prim.Native.Nat.{ℕ, zero, suc, _+_, _*_, _≤_, _<_}
+use mathlib.Core.Path.{_≡_, sym, ap, _∙_}
+use mathlib.Core.Bool.{not}
+use mathlib.Core.List.{List, _∷_, _++_}
+use Prim.Native.Nat.{ℕ, _+_, _*_, _≤_, _<_}
 use native.Mathlib.Nat.{le-trans, mul-le-mul, mul-le-mul-right}
 use native.Mathlib.Omega.{arith}
 use lib.Dec.{eqb, leb}
 use lib.ListN.{length, getD}
-use borrow.Author.Tests.{ltb-false, eqb-true, eq-eqb, ne-eqb, not-false}
-use Rattle.xdr.specs.Words.{word, bytes}
-use Rattle.xdr.proofs.Laws.{Bytes}
+use borrow.Author.Tests.{ltb-false, eqb-true, not-false}
+use Rattle.xdr.specs.Words.{word}
+use Rattle.xdr.proofs.Words.{Bytes}
 use Rattle.rules.specs.Records.{History, history, number, sends, carried}
-use Rattle.rules.specs.Table.{inRange, sectionWords, start, recordsAt, decoded}
+use Rattle.rules.specs.Table.{heading, width, mostWords, inRange, sectionWords, start, recordsAt, decoded}
 use Rattle.rules.specs.Steps.{Call}
-use Rattle.rules.specs.Calls.{areaLength, outcome, Row, row, first, tableRows, laterRows, stepRows, judged}
-use Rattle.theorems.proofs.Steps.{Numbered, none-met, first-append, Accepted, accepted-met}
-use Rattle.theorems.proofs.Laid.{product, sends-length}
-use Rattle.theorems.proofs.WellLaid.{decoded-at, decoded-words, decoded-short}
-use Rattle.theorems.proofs.OneCall.{split-zero, in-range, Whole, whole, table-legal, legal-number, legal-carried}
+use Rattle.rules.specs.Calls.{areaLength, row, first, tableRows, laterRows, stepRows}
+use Rattle.records.proofs.Rows.{none-met, split-zero, first-unmet}
+use Rattle.records.proofs.Steps.{Accepted, accepted-met}
+use Rattle.tables.proofs.Laid.{product, sends-length}
+use Rattle.tables.proofs.WellLaid.{decoded-at, decoded-words, decoded-short}
+use Rattle.tables.proofs.OneCall.{in-range, Whole, whole, table-legal, legal-number, legal-carried}
 
 -- ---- outcomes
 
-pub judged-stop : (t a t′ ws : List ℕ) {r s : ℕ} → r ≡ s → r ≢ 0 → outcome r t a ≡ judged s t a t′ ws
-judged-stop t a t′ ws {r} e ne = rw (← e, ne-eqb r 0 ne)
-
-pub judged-done : (t a t′ ws : List ℕ) {u b : List ℕ} {s : ℕ} → s ≡ 0 → u ≡ t′ → b ≡ bytes ws → outcome 0 u b ≡ judged s t a t′ ws
-judged-done t a t′ ws {s} z x y = rw (eq-eqb s 0 z, x, y)
-
 -- ---- rows
-
--- rows of which one is met stop a call whatever comes after them
-pub stopped : (rs qs : List Row) {r : ℕ} → Numbered rs → r ≡ first rs → r ≢ 0 → r ≡ first (rs ++ qs)
-stopped [] qs w e ne = absurd (ne e)
-stopped (row zero m ∷ rs) qs w e ne = absurd w
-stopped (row (suc x) true ∷ rs) qs w e ne = e
-stopped (row (suc x) false ∷ rs) qs w e ne = stopped rs qs w e ne
-
--- rows of which none is met leave the call to those that come after them
-pub going : (rs qs : List Row) {r : ℕ} → Numbered rs → r ≡ first rs → r ≡ 0 → first (rs ++ qs) ≡ first qs
-going rs qs w e z = first-append rs qs (none-met rs w (sym e ∙ z))
 
 -- ---- a table that meets none of its own rows
 
@@ -52,13 +35,13 @@ sixteen t e z =
 
 -- of a process p below n, whose section starts at word `at`: the section lies in the table, and its words are those of p's history
 pub record Head (t : List ℕ) (p E at : ℕ) : Type 0 where
-  pub inside : 4 * (at + 3 + 3 * E) ≤ length t
-  pub near : at ≤ 65536
+  pub inside : 4 * (at + heading + width * E) ≤ length t
+  pub near : at ≤ mostWords
   pub most : E ≤ 1024
   pub count : word t at ≡ length (history (decoded t) p)
   pub current : word t (at + 1) ≡ number (history (decoded t) p)
   pub sent : word t (at + 2) ≡ sends (history (decoded t) p)
-  pub events : recordsAt (word t) (at + 3) (word t at) ≡ history (decoded t) p
+  pub events : recordsAt (word t) (at + heading) (word t at) ≡ history (decoded t) p
   pub short : word t at ≤ E
   pub low : word t (at + 1) ≤ 16384
   pub few : word t (at + 2) ≤ 1024
@@ -83,12 +66,12 @@ head t W p lt {E} {at} e s = rw (s, e) here
 
     here : Head t p F (start F p)
     here =
-        let m = mul-le-mul-right {m = p + 1} {n = n} (3 * (F + 1)) (omega arith) in
+        let m = mul-le-mul-right {m = p + 1} {n = n} (heading + width * F) (omega arith) in
         let l = W .is .whole in
         let r = W .range .records in
         let g = W .range .processes in
         let b = product n F g r in
-        let d = mul-le-mul {n₁ = p} {m₁ = 3 * (F + 1)} {n₂ = 16} {m₂ = 3075} (omega arith) (omega arith) in
+        let d = mul-le-mul {n₁ = p} {m₁ = heading + width * F} {n₂ = 16} {m₂ = heading + width * 1024} (omega arith) (omega arith) in
         let k = sends-length h in
         let y = decoded-short n F t (W .is) p in
         let x = a 1 (omega arith) in
@@ -115,10 +98,6 @@ carried-low t W q k =
     (product (word t 0) (word t 1) (W .range .processes) (W .range .records))
 
 -- ---- a step that meets no row
-
-pub first-unmet : (r : ℕ) (b : Bool) (rs : List Row) → first (row (suc r) b ∷ rs) ≡ 0 → b ≡ false
-first-unmet r true rs e = absurd (omega arith)
-first-unmet r false rs e = refl
 
 pub record Passed (t : List ℕ) (p : ℕ) (call : Call) (len : ℕ) : Type 0 where
   pub table : Whole t

@@ -11,10 +11,10 @@ use lib.ListN.{length, getD, List·getD-map}
 use borrow.Author.Tests.{leb-false, le-leb, lt-leb, eq-eqb}
 use Rattle.rules.specs.Records.{Event, basic, forced, sent, received, History, State, history, number, sends, carried, destination, hasSend}
 use Rattle.rules.specs.Lines.{upto, part, orphan, NoOrphan, atLeast, orElse, firstNumbered, orCount, numbered, numberedLine}
-use Rattle.theorems.proofs.Older.{Older, same, newer, older-length}
-use Rattle.theorems.proofs.Histories.{Test, passes, fails, test, Held, holds-held, held-holds, holds-older, send-of, each-older, Rising}
-use Rattle.theorems.proofs.Steps.{or-false}
-use Rattle.theorems.proofs.Made.{Made, Source, Sourced}
+use Rattle.basics.proofs.Older.{Older, same, newer, older-length}
+use Rattle.basics.proofs.Booleans.{Test, passes, fails, test, or-false}
+use Rattle.records.proofs.Histories.{Held, holds-held, held-holds, holds-older, send-of, each-older, Rising}
+use Rattle.records.proofs.Made.{Made, Source, Sourced}
 
 -- ---- positions and older parts
 

@@ -6,10 +6,11 @@ use Prim.Native.Nat.{ℕ, zero, suc, _+_, _-_, _*_, _≤_, _<_}
 use native.Mathlib.Omega.{arith}
 use lib.ListN.{length, getD, replicate, length-replicate}
 use Rattle.xdr.specs.Words.{word, putWords}
-use Rattle.xdr.proofs.Laws.{Small, bytes-of, all-length, all-bytes, all-other, all-at}
-use Rattle.rules.specs.Table.{size, sectionWords, sectionsWords, layout, fresh}
-use Rattle.theorems.proofs.Steps.{history-fresh}
-use Rattle.theorems.proofs.Laid.{InRange, sections-length}
+use Rattle.xdr.proofs.Words.{Small, bytes-of}
+use Rattle.xdr.proofs.Puts.{all-length, all-bytes, all-other, all-at}
+use Rattle.rules.specs.Table.{heading, width, size, sectionWords, sectionsWords, layout, fresh}
+use Rattle.records.proofs.Steps.{history-fresh}
+use Rattle.tables.proofs.Laid.{InRange, sections-length}
 
 abbrev Zeros : List ℕ → Type 0
 Zeros xs = (i : ℕ) → getD xs i 0 ≡ 0
@@ -28,7 +29,7 @@ zeros-section : (E : ℕ) → Zeros (sectionWords E [])
 zeros-section E zero = refl
 zeros-section E (suc zero) = refl
 zeros-section E (suc (suc zero)) = refl
-zeros-section E (suc (suc (suc i))) = zeros-replicate (3 * (E - 0)) i
+zeros-section E (suc (suc (suc i))) = zeros-replicate (width * (E - 0)) i
 
 zeros-fresh : (E n : ℕ) → Zeros (sectionsWords E (fresh n))
 zeros-fresh E zero i = refl
@@ -50,10 +51,10 @@ fresh-layout n E d =
     wide : length t ≡ size n E
     wide = length-replicate {A = ℕ} (size n E) 0
 
-    few : length (sectionsWords E (fresh n)) ≡ n * (3 * (E + 1))
+    few : length (sectionsWords E (fresh n)) ≡ n * (heading + width * E)
     few =
         sections-length E (fresh n) (λ q. let h = ap length (history-fresh n q) in omega arith)
-        ∙ ap (λ (x : ℕ). x * (3 * (E + 1))) (length-replicate n [])
+        ∙ ap (λ (x : ℕ). x * (heading + width * E)) (length-replicate n [])
 
     size-of : length (putWords t 0 (n ∷ E ∷ [])) ≡ 4 * length (n ∷ E ∷ sectionsWords E (fresh n))
     size-of = let a = all-length t 0 (n ∷ E ∷ []) in let b = wide in let c = few in omega arith

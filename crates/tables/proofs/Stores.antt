@@ -9,12 +9,13 @@ use native.Mathlib.Decide.{decLt, ℕ-discrete}
 use lib.ListN.{length, getD, set, length-set, length-append}
 use Rattle.rules.specs.Records.{History, State, history, number, sends}
 use Rattle.xdr.specs.Words.{word, putWords}
-use Rattle.rules.specs.Table.{sectionWords, layout, start, decoded}
-use Rattle.theorems.proofs.Steps.{history-same, history-other, each-step}
-use Rattle.xdr.proofs.Laws.{Small, all-length, all-bytes, all-other, all-at}
-use Rattle.theorems.proofs.Words.{At}
-use Rattle.theorems.proofs.Laid.{section-length, next}
-use Rattle.theorems.proofs.WellLaid.{IsTable, is-layout, addedWords, added-length, section-grown, decoded-length, decoded-words, decoded-short}
+use Rattle.rules.specs.Table.{heading, width, sectionWords, layout, start, decoded}
+use Rattle.records.proofs.Steps.{history-same, history-other, each-step}
+use Rattle.tables.proofs.Places.{At}
+use Rattle.tables.proofs.Laid.{section-length, next}
+use Rattle.tables.proofs.WellLaid.{IsTable, is-layout, addedWords, added-length, section-grown, decoded-length, decoded-words, decoded-short}
+use Rattle.xdr.proofs.Words.{Small}
+use Rattle.xdr.proofs.Puts.{all-length, all-bytes, all-other, all-at}
 
 -- the words at the start of a section with records es after those of h
 abbrev pub headWords : History → History → List ℕ
@@ -22,7 +23,7 @@ headWords es h = (length es + length h) ∷ number (es ++ h) ∷ sends (es ++ h)
 
 -- a table with records es more at process p, whose history is h
 unfoldable pub stored : ℕ → List ℕ → ℕ → History → History → List ℕ
-stored E t p h es = putWords (putWords t (start E p) (headWords es h)) (start E p + 3 + 3 * length h) (addedWords es h)
+stored E t p h es = putWords (putWords t (start E p) (headWords es h)) (start E p + heading + width * length h) (addedWords es h)
 
 pub stored-layout : (n E : ℕ) (t : List ℕ) (T : IsTable n E t) (p : ℕ) (es : History) → p < n → length es + length (history (decoded t) p) ≤ E
     → Small (headWords es (history (decoded t) p)) → Small (addedWords es (history (decoded t) p))
@@ -46,7 +47,7 @@ stored-layout n E t T p es lt room small₁ small₂ =
     at = start E p
 
     k : ℕ
-    k = at + 3 + 3 * length h
+    k = at + heading + width * length h
 
     heads : List ℕ
     heads = headWords es h
@@ -60,7 +61,7 @@ stored-layout n E t T p es lt room small₁ small₂ =
     inside : p < length s
     inside = let z = decoded-length n E t T in omega arith
 
-    three : length (addedWords es h) ≡ 3 * length es
+    three : length (addedWords es h) ≡ width * length es
     three = added-length es h
 
     -- word 0 and word 1 stay
@@ -75,14 +76,14 @@ stored-layout n E t T p es lt room small₁ small₂ =
         let z = three in
         all-other t′ k (addedWords es h) j (inr (omega arith)) ∙ all-other t at heads j (inr (omega arith))
 
-    fits : 4 * (k + 3 * length es) ≤ length t
+    fits : 4 * (k + width * length es) ≤ length t
     fits =
         let a = next E p in
-        let b = mul-le-mul-right (3 * (E + 1)) lt in
+        let b = mul-le-mul-right (heading + width * E) lt in
         let c = T .whole in
         omega arith
 
-    head-at : (j : ℕ) → j < 3 → word u (at + j) ≡ getD heads j 0
+    head-at : (j : ℕ) → j < heading → word u (at + j) ≡ getD heads j 0
     head-at j l = all-other t′ k (addedWords es h) (at + j) (inl (omega arith)) ∙ all-at t at heads small₁ (let f = fits in omega arith) j l
 
     own : At (word u) at (sectionWords E (es ++ h))
@@ -91,19 +92,19 @@ stored-layout n E t T p es lt room small₁ small₂ =
         (all-at t′ k (addedWords es h) small₂ (let f = fits in let l = all-length t at heads in let z = three in omega arith))
         (λ i le o. all-other t′ k (addedWords es h) i (rest i o) ∙ all-other t at heads i (inr (omega arith)))
       where
-        rest : (i : ℕ) → (i < k) ⊎ (k + 3 * length es ≤ i) → (i < k) ⊎ (k + length (addedWords es h) ≤ i)
+        rest : (i : ℕ) → (i < k) ⊎ (k + width * length es ≤ i) → (i < k) ⊎ (k + length (addedWords es h) ≤ i)
         rest i (inl x) = inl x
         rest i (inr x) = inr (let z = three in omega arith)
 
     others : (r : ℕ) → r < n → r ≢ p → At (word u) (start E r) (sectionWords E (history s r))
     others r l ne j lj = outside (start E r + j) (side (decLt r p)) ∙ decoded-words n E t T r l j lj
       where
-        long : length (sectionWords E (history s r)) ≡ 3 * (E + 1)
+        long : length (sectionWords E (history s r)) ≡ heading + width * E
         long = section-length E (history s r) (decoded-short n E t T r)
 
         side : Dec (r < p) → (start E r + j < at) ⊎ (start E (suc p) ≤ start E r + j)
-        side (yes x) = inl (let a = mul-le-mul-right (3 * (E + 1)) x in let b = next E r in let c = long in omega arith)
-        side (no x) = inr (let y : suc p ≤ r = omega arith in let a = mul-le-mul-right (3 * (E + 1)) y in omega arith)
+        side (yes x) = inl (let a = mul-le-mul-right (heading + width * E) x in let b = next E r in let c = long in omega arith)
+        side (no x) = inr (let y : suc p ≤ r = omega arith in let a = mul-le-mul-right (heading + width * E) y in omega arith)
 
     sections : (r : ℕ) → r < n → At (word u) (start E r) (sectionWords E (history (set s p (es ++ h)) r))
     sections r l = go (ℕ-discrete r p)

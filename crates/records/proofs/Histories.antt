@@ -1,6 +1,6 @@
 -- Laws of a history's number, sends and messages: what later records leave as it was.
 use mathlib.Core.Path.{_≡_, refl, _∙_}
-use mathlib.Core.Bool.{Bool, true, false, _&&_, and-eq-true-iff}
+use mathlib.Core.Bool.{true, _&&_, and-eq-true-iff}
 use mathlib.Core.List.{[], _∷_}
 use Prim.Native.Nat.{ℕ, suc, _≤_, _<_}
 use native.Mathlib.Nat.{le-refl, le-trans}
@@ -8,16 +8,8 @@ use native.Mathlib.Omega.{arith}
 use lib.Dec.{leb, ltb, eqb}
 use borrow.Author.Tests.{ltb-true, leb-true, eqb-true, eqb-false, lt-ltb, le-leb, eq-eqb, ne-eqb}
 use Rattle.rules.specs.Records.{Event, basic, forced, sent, received, History, number, sends, carried, destination, hasSend}
-use Rattle.theorems.proofs.Older.{Older, same, newer}
-
--- what a test came to, with the equation
-pub data Test (b : Bool) : Type 0 where
-  passes : b ≡ true → Test b
-  fails : b ≡ false → Test b
-
-pub test : (b : Bool) → Test b
-test true = passes refl
-test false = fails refl
+use Rattle.basics.proofs.Older.{Older, same, newer}
+use Rattle.basics.proofs.Booleans.{Test, passes, fails, test}
 
 -- ---- sends
 

@@ -12,12 +12,13 @@ use borrow.Author.Tests.{ltb-true, ltb-false, leb-false, eqb-true}
 use Rattle.rules.specs.Records.{Event, basic, forced, sent, received, History, State, history, number, sends, carried, hasSend}
 use Rattle.rules.specs.Table.{fresh}
 use Rattle.rules.specs.Steps.{Call, checkpoint, send, receipt, forces, carries, grown, stepped}
-use Rattle.rules.specs.Lines.{sum}
+use Rattle.rules.specs.FailureLine.{sum}
 use Rattle.rules.specs.Calls.{Row, row, first, stepRows}
 use Rattle.rules.specs.Lists.{Entry, entry, check, after, run}
-use Rattle.theorems.proofs.Older.{Older, older-length}
-use Rattle.theorems.proofs.Histories.{Test, passes, fails, test, holds-held, holds-older, carried-older, Each, each-all, Rising}
-use Rattle.theorems.proofs.Steps.{Accepted, run-keeps, after-keeps, history-fresh, each-step, grown-older, grown-length, stepped-older, carries-later}
+use Rattle.basics.proofs.Older.{Older, older-length}
+use Rattle.basics.proofs.Booleans.{Test, passes, fails, test}
+use Rattle.records.proofs.Histories.{holds-held, holds-older, carried-older, Each, each-all, Rising}
+use Rattle.records.proofs.Steps.{Accepted, run-keeps, after-keeps, history-fresh, each-step, grown-older, grown-length, stepped-older, carries-later}
 
 -- ---- each receipt has its send, addressed to it, and comes after a checkpoint with at least the number carried
 

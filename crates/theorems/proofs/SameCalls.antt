@@ -12,11 +12,12 @@ use borrow.Author.Tests.{eqb-true, eqb-false, leb-true, leb-false}
 use Rattle.rules.specs.Records.{basic, forced, sent, received, History, State, history}
 use Rattle.rules.specs.Table.{layout, fresh}
 use Rattle.rules.specs.Steps.{Call, checkpoint, send, receipt, forces, carries, grown, stepped}
-use Rattle.rules.specs.Calls.{answer, judged}
+use Rattle.rules.specs.Calls.{answer}
 use Rattle.rules.specs.Lists.{Entry, entry, acceptedCall, acceptedCalls, check, accepts, after, run, said, saidAll}
-use Rattle.theorems.proofs.Older.{Older, same, newer, older-trans}
-use Rattle.theorems.proofs.Histories.{Test, passes, fails, test}
-use Rattle.theorems.proofs.Steps.{Accepted, accepts-met, run-keeps, after-keeps, history-same, history-other, history-fresh, each-step, grown-older, stepped-older, carries-later}
+use Rattle.basics.proofs.Older.{Older, same, newer, older-trans}
+use Rattle.basics.proofs.Booleans.{Test, passes, fails, test}
+use Rattle.records.proofs.Steps.{Accepted, accepts-met, run-keeps, after-keeps, history-same, history-other, history-fresh, each-step, grown-older, stepped-older, carries-later}
+use Rattle.records.proofs.Rows.{judged-returned}
 
 -- the calls whose records a history has, the newest first
 abbrev pub calls : History → List Call
@@ -39,13 +40,6 @@ calls-grown h (receipt q k) c = go (forces h c)
 
 abbrev pub accepted : ℕ → ℕ → ℕ → State → List Entry → List Call
 accepted p n E s l = acceptedCalls p l (saidAll n E s l)
-
-pub judged-returned : (r : ℕ) (t a t′ ws : List ℕ) → judged r t a t′ ws .returned ≡ r
-judged-returned r t a t′ ws = go (test (eqb r 0))
-  where
-    go : Test (eqb r 0) → judged r t a t′ ws .returned ≡ r
-    go (passes e) = rw e (sym (eqb-true r 0 e))
-    go (fails e) = rw e
 
 said-returned : (n E : ℕ) (s : State) (e : Entry) → said n E s e .returned ≡ check n E s e
 unfolding said

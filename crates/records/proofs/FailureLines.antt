@@ -11,9 +11,11 @@ use lib.ListN.{length, getD, List·getD-eq-default}
 use lib.Seq.{ext-getD}
 use borrow.Author.Tests.{leb-true, leb-false, lt-leb, not-false}
 use Rattle.rules.specs.Records.{Event, basic, forced, sent, received, History, State, history, hasSend}
-use Rattle.rules.specs.Lines.{upto, part, orphan, NoOrphan, failed, Permitted, IsFailureLine, lowered, eachFrom, round, rounds, top, sum, failureLine}
-use Rattle.theorems.proofs.Histories.{Test, passes, fails, test, holds-older}
-use Rattle.theorems.proofs.Cuts.{upto-mono, any-none, none-any, lowered-le, lowered-same, lowered-permitted, lowered-keeps, top-le, top-permitted, top-latest}
+use Rattle.rules.specs.Lines.{upto, part, orphan, NoOrphan, failed, Permitted, IsFailureLine}
+use Rattle.rules.specs.FailureLine.{lowered, eachFrom, round, rounds, top, sum, failureLine}
+use Rattle.basics.proofs.Booleans.{Test, passes, fails, test}
+use Rattle.records.proofs.Histories.{holds-older}
+use Rattle.records.proofs.Cuts.{upto-mono, any-none, none-any, lowered-le, lowered-same, lowered-permitted, lowered-keeps, top-le, top-permitted, top-latest}
 
 -- ---- lists of positions
 

@@ -1,8 +1,8 @@
 -- What one accepted call stores into any table, made or not, is the table that the rules say.
 use mathlib.Core.Path.{_≡_, refl, sym}
 use mathlib.Core.Bool.{Bool, true, false, cond, _&&_}
-use mathlib.Core.List.{List, [], _∷_, _++_}
-use Prim.Native.Nat.{ℕ, zero, suc, _+_, _-_, _*_, _≤_, _<_, zero-le}
+use mathlib.Core.List.{List, [], _∷_}
+use Prim.Native.Nat.{ℕ, suc, _+_, _-_, _*_, _≤_, _<_, zero-le}
 use native.Mathlib.Nat.{le-trans}
 use native.Mathlib.Omega.{arith}
 use native.Mathlib.Decide.{decLt}
@@ -11,15 +11,17 @@ use lib.ListN.{length, length-append}
 use borrow.Author.Tests.{eqb-true, leb-true, not-false}
 use Rattle.rules.specs.Records.{basic, forced, sent, received, History, State, history, number, sends, carried, hasSend}
 use Rattle.rules.specs.Steps.{Call, checkpoint, send, receipt, forces, carries, added, stepped}
-use Rattle.rules.specs.Calls.{Row, row, first, tableRows, needed}
+use Rattle.rules.specs.Calls.{first, tableRows, needed}
 use Rattle.xdr.specs.Words.{word}
 use Rattle.rules.specs.Table.{layout, sectionsOk, decoded, size, inRange, wellLaid}
-use Rattle.theorems.proofs.Histories.{holds-held}
-use Rattle.theorems.proofs.Steps.{NoneMet, Numbered, Message, Accepted, grown-length}
-use Rattle.xdr.proofs.Laws.{Bytes, Small}
-use Rattle.theorems.proofs.Laid.{InRange, product, Legal, sends-length}
-use Rattle.theorems.proofs.WellLaid.{IsTable, and-left, and-right, sections-each, section-of, addedWords, decoded-is, decoded-at, decoded-short, from-beyond}
-use Rattle.theorems.proofs.Stores.{headWords, stored, stored-layout}
+use Rattle.basics.proofs.Booleans.{and-left, and-right}
+use Rattle.records.proofs.Histories.{holds-held}
+use Rattle.records.proofs.Rows.{NoneMet}
+use Rattle.records.proofs.Steps.{Message, Accepted, grown-length}
+use Rattle.tables.proofs.Laid.{InRange, product, Legal, sends-length}
+use Rattle.tables.proofs.WellLaid.{IsTable, sections-each, section-of, addedWords, decoded-is, decoded-at, decoded-short, from-beyond}
+use Rattle.tables.proofs.Stores.{headWords, stored, stored-layout}
+use Rattle.xdr.proofs.Words.{Bytes, Small}
 
 -- ---- a well laid table's records are within their ranges
 
@@ -80,12 +82,6 @@ module _ (n E : ℕ) (d : InRange n E) (s : State) (short : (q : ℕ) → length
           (le-trans (legal-carried n E q (history s q) k (L q)) most) a z x g
 
 -- ---- the call
-
-pub split-zero : (rs qs : List Row) → Numbered rs → first (rs ++ qs) ≡ 0 → NoneMet rs × (first qs ≡ 0)
-split-zero [] qs w e = (tt, e)
-split-zero (row zero m ∷ rs) qs w e = absurd w
-split-zero (row (suc r) true ∷ rs) qs w e = absurd (omega arith)
-split-zero (row (suc r) false ∷ rs) qs w e = let a = split-zero rs qs w e in ((refl, a .0), a .1)
 
 pub in-range : (n E : ℕ) → inRange n E ≡ true → InRange n E
 in-range n E ok =

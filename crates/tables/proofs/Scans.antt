@@ -1,0 +1,123 @@
+-- What one more record does to what a scan has found. A scan reads a record's words, and no kind but 3 and 4 is told apart.
+use mathlib.Core.Path.{_≡_, refl, sym, _∙_, subst}
+use mathlib.Core.Bool.{Bool, true, false, not, cond, _&&_, _||_}
+use mathlib.Core.List.{_∷_}
+use Prim.Native.Nat.{ℕ, suc, _+_, _*_, _≤_}
+use native.Mathlib.Numerals.{add-one}
+use lib.Dec.{eqb, leb}
+use borrow.Author.Tests.{eqb-true}
+use Rattle.rules.specs.Records.{Event, basic, forced, sent, received, History, number, sends, carried, destination, hasReceipt}
+use Rattle.rules.specs.Table.{width, eventAt, recordsAt}
+use Rattle.rules.specs.Lines.{atLeast}
+use Rattle.basics.proofs.Booleans.{Test, passes, fails, test, either, both}
+use Rattle.tables.proofs.Laid.{sends-length}
+use Rattle.tables.proofs.WellLaid.{records-length}
+
+-- a value that is the same for basic and forced checkpoints
+pub event : {A : Type 0} (f : Event → A) (w : ℕ → ℕ) (i : ℕ) → f (forced (w (i + 1))) ≡ f (basic (w (i + 1)))
+    → f (eventAt w i) ≡ cond (eqb (w i) 4) (f (received (w (i + 1)) (w (i + 2)))) (cond (eqb (w i) 3) (f (sent (w (i + 1)))) (f (basic (w (i + 1)))))
+event {A} f w i e = go (eqb (w i) 4) (eqb (w i) 3) (eqb (w i) 2)
+  where
+    a : ℕ
+    a = w (i + 1)
+
+    b : ℕ
+    b = w (i + 2)
+
+    go : (x y z : Bool)
+        → f (cond x (received a b) (cond y (sent a) (cond z (forced a) (basic a)))) ≡ cond x (f (received a b)) (cond y (f (sent a)) (f (basic a)))
+    go true y z = refl
+    go false true z = refl
+    go false false true = e
+    go false false false = refl
+
+-- the value of a kind that is not told from the rest first
+pub second-only : {A : Type 0} (kind : ℕ) (u v : A) → cond (eqb kind 4) v (cond (eqb kind 3) u v) ≡ cond (eqb kind 3) u v
+second-only kind u v = go (test (eqb kind 4))
+  where
+    go : Test (eqb kind 4) → cond (eqb kind 4) v (cond (eqb kind 3) u v) ≡ cond (eqb kind 3) u v
+    go (passes e) = rw (eqb-true kind 4 e)
+    go (fails e) = rw e
+
+-- ---- one more record, whose words start at word i
+
+module _ (h : History) (w : ℕ → ℕ) (i : ℕ) where
+  number-event : number (eventAt w i ∷ h) ≡ cond (eqb (w i) 4 || eqb (w i) 3) (number h) (w (i + 1))
+  number-event = event (λ e. number (e ∷ h)) w i refl ∙ either (eqb (w i) 4) (eqb (w i) 3) (number h) (w (i + 1))
+
+  sends-event : sends (eventAt w i ∷ h) ≡ cond (eqb (w i) 3) (sends h + 1) (sends h)
+  sends-event = rw (add-one (sends h)) (event (λ e. sends (e ∷ h)) w i refl ∙ second-only (w i) (suc (sends h)) (sends h))
+
+  -- what is asked of send k, where a send gives x and what was before it d
+  send-event : (f : History → ℕ) (k x : ℕ) → f (eventAt w i ∷ h) ≡ cond (eqb (w i) 4) (f h) (cond (eqb (w i) 3) (cond (eqb k (suc (sends h))) x (f h)) (f h))
+      → f (eventAt w i ∷ h) ≡ cond (eqb (w i) 3 && eqb k (sends h + 1)) x (f h)
+  send-event f k x e =
+      rw (add-one (sends h))
+      (e
+      ∙ second-only (w i) (cond (eqb k (suc (sends h))) x (f h)) (f h)
+      ∙ both (eqb (w i) 3) (eqb k (suc (sends h))) x (f h))
+
+  carried-event : (k : ℕ) → carried (eventAt w i ∷ h) k ≡ cond (eqb (w i) 3 && eqb k (sends h + 1)) (number h) (carried h k)
+  carried-event k = send-event (λ g. carried g k) k (number h) (event (λ e. carried (e ∷ h) k) w i refl)
+
+  destination-event : (k : ℕ) → destination (eventAt w i ∷ h) k ≡ cond (eqb (w i) 3 && eqb k (sends h + 1)) (w (i + 1)) (destination h k)
+  destination-event k = send-event (λ g. destination g k) k (w (i + 1)) (event (λ e. destination (e ∷ h) k) w i refl)
+
+  receipt-event : (q k : ℕ) → hasReceipt (eventAt w i ∷ h) q k ≡ (hasReceipt h q k || (eqb (w i) 4 && eqb (w (i + 1)) q && eqb (w (i + 2)) k))
+  receipt-event q k =
+      event (λ e. hasReceipt (e ∷ h) q k) w i refl ∙ go (eqb (w i) 4) (eqb (w i) 3) (eqb (w (i + 1)) q) (eqb (w (i + 2)) k) (hasReceipt h q k)
+    where
+      go : (x y u v r : Bool) → cond x ((u && v) || r) (cond y r r) ≡ (r || (x && u && v))
+      go true y true true true = refl
+      go true y true true false = refl
+      go true y true false true = refl
+      go true y true false false = refl
+      go true y false v true = refl
+      go true y false v false = refl
+      go false true u v true = refl
+      go false true u v false = refl
+      go false false u v true = refl
+      go false false u v false = refl
+
+-- a checkpoint with a number of N or more
+pub least-event : (N : ℕ) (w : ℕ → ℕ) (i : ℕ) → atLeast N (eventAt w i) ≡ (not (eqb (w i) 4 || eqb (w i) 3) && leb N (w (i + 1)))
+least-event N w i = event (atLeast N) w i refl ∙ go (eqb (w i) 4) (eqb (w i) 3)
+  where
+    go : (x y : Bool) → cond x false (cond y false (leb N (w (i + 1)))) ≡ (not (x || y) && leb N (w (i + 1)))
+    go true y = refl
+    go false true = refl
+    go false false = refl
+
+-- ---- the first i records from word `at` on, and the next one, of which the words kind, a and b are read
+
+module _ (w : ℕ → ℕ) (at i : ℕ) where
+  abbrev past : History
+  past = recordsAt w at i
+
+  -- where the next record starts
+  abbrev here : ℕ
+  here = at + width * i
+
+  module _ {kind : ℕ} (x : kind ≡ w here) where
+    pub sends-next : {s r : ℕ} → s ≡ sends past → r ≡ cond (eqb kind 3) (s + 1) s → r ≡ sends (recordsAt w at (i + 1))
+    sends-next e r = r ∙ rw (e, x, add-one i) (sym (sends-event past w here))
+
+    module _ {a : ℕ} (y : a ≡ w (here + 1)) where
+      pub number-next : {m r : ℕ} → m ≡ number past → r ≡ cond (eqb kind 4 || eqb kind 3) m a → r ≡ number (recordsAt w at (i + 1))
+      number-next e r = r ∙ rw (e, x, y, add-one i) (sym (number-event past w here))
+
+      pub destination-next : (k : ℕ) {s d r : ℕ} → s ≡ sends past → d ≡ destination past k → r ≡ cond (eqb kind 3 && eqb k (s + 1)) a d
+          → r ≡ destination (recordsAt w at (i + 1)) k
+      destination-next k e f r = r ∙ rw (e, f, x, y, add-one i) (sym (destination-event past w here k))
+
+      pub receipt-next : (q k : ℕ) {b : ℕ} → b ≡ w (here + 2) → {f : Bool} → f ≡ hasReceipt past q k
+          → (f || (eqb kind 4 && eqb a q && eqb b k)) ≡ hasReceipt (recordsAt w at (i + 1)) q k
+      receipt-next q k z e = rw (e, x, y, z, add-one i) (sym (receipt-event past w here q k))
+
+    pub carried-next : (k : ℕ) {m s c r : ℕ} → m ≡ number past → s ≡ sends past → c ≡ carried past k
+        → r ≡ cond (eqb kind 3 && eqb k (s + 1)) m c → r ≡ carried (recordsAt w at (i + 1)) k
+    carried-next k e f g r = r ∙ rw (e, f, g, x, add-one i) (sym (carried-event past w here k))
+
+-- no section has more sends than records
+pub sends-at-most : (w : ℕ → ℕ) (at i : ℕ) → sends (recordsAt w at i) ≤ i
+sends-at-most w at i = subst (λ (x : ℕ). sends (recordsAt w at i) ≤ x) (records-length w at i) (sends-length (recordsAt w at i))
