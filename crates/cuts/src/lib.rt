@@ -23,7 +23,7 @@ fn saved(t: &[u8], at: usize, i: usize) -> bool
     if i == 0 {
         return true;
     }
-    let kind = xdr::size(t, at + 3 * (i - 1));
+    let kind = xdr::get_usize(t, at + 3 * (i - 1));
     !((kind == 4) | (kind == 3))
 }
 
@@ -36,7 +36,7 @@ pub fn back_to(t: &[u8], at: usize, c: usize, k: usize, r: usize) -> Part
     let mut sends = k;
     while (r < i) | !saved(t, at, i) {
         i -= 1;
-        sends -= layout::pick(xdr::size(t, at + 3 * i) == 3, 1, 0);
+        sends -= layout::pick(xdr::get_usize(t, at + 3 * i) == 3, 1, 0);
     }
     Part {
         position: i,
@@ -59,8 +59,8 @@ pub fn first_late(t: &[u8], at: usize, c: usize, sends: &[u16]) -> usize
     let mut i: usize = 0;
     while i < c {
         let w = at + 3 * i;
-        let q = xdr::size(t, w + 1) % 16;
-        if (xdr::size(t, w) == 4) & (wide(sends[q]) < xdr::size(t, w + 2)) {
+        let q = xdr::get_usize(t, w + 1) % 16;
+        if (xdr::get_usize(t, w) == 4) & (wide(sends[q]) < xdr::get_usize(t, w + 2)) {
             return i;
         }
         i += 1;
@@ -85,8 +85,13 @@ pub fn first_unsent(t: &[u8], at: usize, c: usize, e: usize, p: u8, to: &[u8]) -
     let mut i: usize = 0;
     while i < c {
         let w = at + 3 * i;
-        let x = place(e, to.len(), xdr::size(t, w + 1), xdr::size(t, w + 2));
-        if (xdr::size(t, w) == 4) & (to[x] != p) {
+        let x = place(
+            e,
+            to.len(),
+            xdr::get_usize(t, w + 1),
+            xdr::get_usize(t, w + 2),
+        );
+        if (xdr::get_usize(t, w) == 4) & (to[x] != p) {
             return i;
         }
         i += 1;
@@ -103,8 +108,8 @@ pub fn note(t: &[u8], at: usize, c: usize, e: usize, q: usize, to: &mut [u8])
     let mut i: usize = 0;
     while i < c {
         let w = at + 3 * i;
-        let kind = xdr::size(t, w);
-        to[q * e + k + 1] = layout::pick(kind == 3, xdr::size(t, w + 1) % 32, 16) as u8;
+        let kind = xdr::get_usize(t, w);
+        to[q * e + k + 1] = layout::pick(kind == 3, xdr::get_usize(t, w + 1) % 32, 16) as u8;
         k = layout::pick(kind == 3, k + 1, k);
         i += 1;
     }

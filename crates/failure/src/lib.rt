@@ -30,7 +30,7 @@ fn back(t: &[u8], n: usize, e: usize, position: [u16; 16]) -> u32
     let mut bit: usize = 1;
     let mut p: usize = 0;
     while p < n {
-        let c = xdr::size(t, layout::start(e, p));
+        let c = xdr::get_usize(t, layout::start(e, p));
         mask = mask + layout::pick(cuts::wide(position[p]) < c, bit, 0);
         bit = bit * 2;
         p += 1;
@@ -84,8 +84,8 @@ pub fn failed(table: &[u8], area: &mut [u8], mask: u32) -> u32
     if row != 0 {
         return row;
     }
-    let n = xdr::size(table, 0);
-    let e = xdr::size(table, 1);
+    let n = xdr::get_usize(table, 0);
+    let e = xdr::get_usize(table, 1);
     let position = positions(table, n, e, mask);
     answer(area, n, position, back(table, n, e, position));
     0

@@ -1,2 +1,2 @@
-pub mod Laws
+pub mod Sections
 pub mod Marks

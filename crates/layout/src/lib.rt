@@ -1,24 +1,28 @@
 // The lent table: where its sections start, whether it is well laid, and its rows (document 01, "The table" and rows 1 to 3).
 ghost use mathlib.Core.Path.{_≡_};
-ghost use mathlib.Core.Bool.{true, cond, _&&_};
+ghost use mathlib.Core.Bool.{true, cond};
 ghost use Prim.Native.Nat.{_+_, _-_, _*_, _/_, _≤_, _<_};
-ghost use lib.Dec.{eqb, ltb};
-ghost use lib.Bits.{bitOr};
-ghost use lib.ListN.{length, getD, replicate};
+ghost use lib.Dec.{eqb};
+ghost use lib.ListN.{length, replicate};
 ghost use mathlib.Core.List.{[]};
 ghost use Rattle.xdr.specs.Words.{word};
-ghost use Rattle.rules.specs.Records.{number, sends};
-ghost use Rattle.rules.specs.Table.{inRange, size, start as startOf, recordsAt, recordsOk, zerosAt, sectionsOk};
-ghost use Rattle.layout.specs.Marks.{clear as clearOf, place as placeOf, rooms as roomsOf, floors as floorsOf, counts as countsOf, masks as masksOf, above, below};
+ghost use Rattle.rules.specs.Table.{heading, width, inRange, size, start as startOf, mostWords, zerosAt, sectionsOk};
+ghost use Rattle.layout.specs.Marks.{kindIndex, masks as masksOf, ByKind, Next, Found};
 ghost use Rattle.layout.specs.Sections.{every, rearOk, frontOk};
 ghost use Rattle.rules.specs.Calls.{outcome, first, tableRows, freshOn};
+
+// The words of a section before its records: count, number, sends.
+pub const HEADING: usize = 3;
+
+// The words of a record: kind, a, b.
+pub const WIDTH: usize = 3;
 
 // The word at which section p starts.
 pub fn start(e: usize, p: usize) -> usize
     requires { ⌜ (e ≤ 1024) × (p ≤ 16) ⌝ }
-    ensures { λ r. ⌜ (r ≡ startOf e p) × (r ≤ 49202) ⌝ }
+    ensures { λ r. ⌜ (r ≡ startOf e p) × (r ≤ mostWords) ⌝ }
 {
-    2 + p * (3 * (e + 1))
+    2 + p * (HEADING + WIDTH * e)
 }
 
 // x where t holds, else y.
@@ -27,6 +31,22 @@ pub fn pick(t: bool, x: usize, y: usize) -> usize
 {
     if t { x } else { y }
 }
+
+// Halves of a number of 64 bits: the top bit of a half, its other bits, and the weight of the upper half.
+const TOP: usize = 2147483648;
+
+const REST: usize = 2147483647;
+
+const UPPER: usize = 4294967296;
+
+// Two halves as one number.
+const TOP_NONE: usize = TOP * UPPER;
+
+const TOP_REST: usize = TOP * UPPER + REST;
+
+const REST_REST: usize = REST * UPPER + REST;
+
+const TOP_TOP: usize = TOP * UPPER + TOP;
 
 // What a scan of used records has found so far: marks, which are clear as long as every record is in order; words a and b of the last
 // checkpoint as a pair; and the count of sends.
@@ -37,8 +57,8 @@ struct Seen {
 }
 
 // Where the lists by kind have this kind.
-fn place(kind: usize) -> usize
-    ensures { λ r. ⌜ (r ≡ placeOf kind) × (r < 5) ⌝ }
+fn kind_index(kind: usize) -> usize
+    ensures { λ r. ⌜ (r ≡ kindIndex kind) × (r < 5) ⌝ }
 {
     pick(kind < 5, kind, 0)
 }
@@ -55,9 +75,9 @@ fn next(
     pair: usize,
 ) -> Seen
     requires { ⌜ (length (now room) ≡ 5) × (length (now floor) ≡ 5) × (now masks ≡ masksOf) × (s .sends ≤ 1024) ⌝ }
-    ensures { λ r. ⌜ (r .marks ≡ bitOr (bitOr (s .marks) (above pair ((s .sends + getD countsOf (placeOf kind) 0) * getD countsOf (placeOf kind) 0) (getD (now (room .entry)) (placeOf kind) 0))) (below pair own (getD (now (floor .entry)) (placeOf kind) 0))) × (r .last ≡ cond (ltb (placeOf kind) 3) pair (s .last)) × (r .sends ≡ s .sends + getD countsOf (placeOf kind) 0) ⌝ }
+    ensures { λ r. ⌜ Next s (now (room .entry)) (now (floor .entry)) own kind pair r ⌝ }
 {
-    let i = place(kind);
+    let i = kind_index(kind);
     let m = masks[i];
     let k = std::num::wrapping_sub_usize(s.sends, m);
     let sum = std::num::wrapping_add_usize(pair ^ (k & m), room[i]);
@@ -81,10 +101,10 @@ fn used(
     at: usize,
     c: usize,
 ) -> Seen
-    requires { ⌜ (n ≤ 16) × (e ≤ 1024) × (p < n) × (c ≤ e) × (now room ≡ roomsOf n e) × (now floor ≡ floorsOf) × (now masks ≡ masksOf) × (4 * (at + 3 * c) ≤ length (now t)) ⌝ }
-    ensures { λ r. ⌜ (clearOf (r .marks) ≡ recordsOk n e (word (now (t .entry))) p at c) × (recordsOk n e (word (now (t .entry))) p at c ≡ true → (r .last ≡ number (recordsAt (word (now (t .entry))) at c) * 4294967296) × (r .sends ≡ sends (recordsAt (word (now (t .entry))) at c))) × (r .sends ≤ c) ⌝ }
+    requires { ⌜ (n ≤ 16) × (e ≤ 1024) × (p < n) × (c ≤ e) × ByKind n e (now room) (now floor) (now masks) × (4 * (at + width * c) ≤ length (now t)) ⌝ }
+    ensures { λ r. ⌜ Found n e (word (now (t .entry))) p at c r ⌝ }
 {
-    let own = p * 4294967296;
+    let own = p * UPPER;
     let mut s = Seen {
         marks: 0,
         last: 0,
@@ -92,14 +112,14 @@ fn used(
     };
     let mut i: usize = 0;
     while i < c {
-        let w = at + 3 * i;
+        let w = at + WIDTH * i;
         s = next(
             s,
             room,
             floor,
             masks,
             own,
-            xdr::size(t, w),
+            xdr::get_usize(t, w),
             xdr::pair(t, w + 1),
         );
         i += 1;
@@ -107,8 +127,8 @@ fn used(
     s
 }
 
-// 0 exactly when the words from word `from` up to word `end`, which are m pairs or one word more, are. The last pair is taken apart, since
-// the rest goes by pairs.
+// 0 exactly when the words from word `from` up to word `end`, which are m pairs or one word more, are. The last pair is looked at first, since
+// a loop over pairs leaves out the last of an odd number of words.
 fn words(t: &[u8], from: usize, m: usize, end: usize) -> usize
     requires { ⌜ (from + 2 ≤ end) × (4 * end ≤ length (now t)) × (m ≡ (end - from) / 2) ⌝ }
     ensures { λ r. ⌜ eqb r 0 ≡ zerosAt (word (now (t .entry))) from (end - from) ⌝ }
@@ -124,14 +144,14 @@ fn words(t: &[u8], from: usize, m: usize, end: usize) -> usize
 
 // 0 exactly when the records from the c-th to the e-th, which start at word `at`, are unused.
 fn unused(t: &[u8], at: usize, c: usize, e: usize) -> usize
-    requires { ⌜ (c ≤ e) × (e ≤ 1024) × (4 * (at + 3 * e) ≤ length (now t)) ⌝ }
-    ensures { λ r. ⌜ eqb r 0 ≡ zerosAt (word (now (t .entry))) (at + 3 * c) (3 * (e - c)) ⌝ }
+    requires { ⌜ (c ≤ e) × (e ≤ 1024) × (4 * (at + width * e) ≤ length (now t)) ⌝ }
+    ensures { λ r. ⌜ eqb r 0 ≡ zerosAt (word (now (t .entry))) (at + width * c) (width * (e - c)) ⌝ }
 {
-    let m = 3 * (e - c) / 2;
+    let m = WIDTH * (e - c) / 2;
     if m == 0 {
         return 0;
     }
-    words(t, at + 3 * c, m, at + 3 * e)
+    words(t, at + WIDTH * c, m, at + WIDTH * e)
 }
 
 // The sections are gone through twice, each time for a part of its own: a loop that looks at both has more at hand than there are
@@ -139,14 +159,14 @@ fn unused(t: &[u8], at: usize, c: usize, e: usize) -> usize
 
 // 0 exactly when the section that starts at word `at` has at most e used records, and zeros behind them.
 fn rear(t: &[u8], e: usize, at: usize) -> usize
-    requires { ⌜ (e ≤ 1024) × (4 * (at + 3 * (e + 1)) ≤ length (now t)) ⌝ }
+    requires { ⌜ (e ≤ 1024) × (4 * (at + heading + width * e) ≤ length (now t)) ⌝ }
     ensures { λ r. ⌜ eqb r 0 ≡ rearOk e (word (now (t .entry))) at ⌝ }
 {
-    let c = xdr::size(t, at);
+    let c = xdr::get_usize(t, at);
     if e < c {
         return 1;
     }
-    unused(t, at + 3, c, e)
+    unused(t, at + HEADING, c, e)
 }
 
 // Whether that holds of all n sections.
@@ -160,7 +180,7 @@ fn rears(t: &[u8], n: usize, e: usize) -> bool
         if rear(t, e, at) != 0 {
             return false;
         }
-        at += 3 * (e + 1);
+        at += HEADING + WIDTH * e;
         p += 1;
     }
     true
@@ -177,17 +197,17 @@ fn front(
     floor: &[usize],
     masks: &[usize],
 ) -> usize
-    requires { ⌜ (n ≤ 16) × (e ≤ 1024) × (p < n) × (now room ≡ roomsOf n e) × (now floor ≡ floorsOf) × (now masks ≡ masksOf) × (4 * (at + 3 * (e + 1)) ≤ length (now t)) × (word (now t) at ≤ e) ⌝ }
+    requires { ⌜ (n ≤ 16) × (e ≤ 1024) × (p < n) × ByKind n e (now room) (now floor) (now masks) × (4 * (at + heading + width * e) ≤ length (now t)) × (word (now t) at ≤ e) ⌝ }
     ensures { λ r. ⌜ eqb r 0 ≡ frontOk n e (word (now (t .entry))) p at ⌝ }
 {
-    let c = xdr::size(t, at);
-    let s = used(t, n, e, p, room, floor, masks, at + 3, c);
-    (s.marks & 9223372039002259456) | (xdr::pair(t, at + 1) ^ (s.last | s.sends))
+    let c = xdr::get_usize(t, at);
+    let s = used(t, n, e, p, room, floor, masks, at + HEADING, c);
+    (s.marks & TOP_TOP) | (xdr::pair(t, at + 1) ^ (s.last | s.sends))
 }
 
 // Whether that holds of all n sections.
 fn fronts(t: &[u8], n: usize, e: usize, room: &[usize], floor: &[usize], masks: &[usize]) -> bool
-    requires { ⌜ (n ≤ 16) × (e ≤ 1024) × (now room ≡ roomsOf n e) × (now floor ≡ floorsOf) × (now masks ≡ masksOf) × (4 * startOf e n ≤ length (now t)) × (every (λ p. rearOk e (word (now t)) (startOf e p)) n ≡ true) ⌝ }
+    requires { ⌜ (n ≤ 16) × (e ≤ 1024) × ByKind n e (now room) (now floor) (now masks) × (4 * startOf e n ≤ length (now t)) × (every (λ p. rearOk e (word (now t)) (startOf e p)) n ≡ true) ⌝ }
     ensures { λ r. ⌜ r ≡ every (λ p. frontOk n e (word (now (t .entry))) p (startOf e p)) n ⌝ }
 {
     let mut at: usize = 2;
@@ -196,7 +216,7 @@ fn fronts(t: &[u8], n: usize, e: usize, room: &[usize], floor: &[usize], masks: 
         if front(t, n, e, p, at, room, floor, masks) != 0 {
             return false;
         }
-        at += 3 * (e + 1);
+        at += HEADING + WIDTH * e;
         p += 1;
     }
     true
@@ -208,22 +228,10 @@ fn sections_ok(t: &[u8], n: usize, e: usize) -> bool
     requires { ⌜ (n ≤ 16) × (e ≤ 1024) × (4 * startOf e n ≤ length (now t)) ⌝ }
     ensures { λ r. ⌜ r ≡ sectionsOk n e (word (now (t .entry))) n ⌝ }
 {
-    let checkpoint = (2147483647 - n * e) * 4294967296 + 2147483647;
-    let message = (2147483648 - n) * 4294967296 + 2147483647;
-    let room = [
-        9223372036854775808,
-        checkpoint,
-        checkpoint,
-        message,
-        message - e,
-    ];
-    let floor = [
-        9223372034707292159,
-        9223372034707292159,
-        9223372034707292159,
-        9223372039002259455,
-        9223372039002259456,
-    ];
+    let checkpoint = (REST - n * e) * UPPER + REST;
+    let message = (TOP - n) * UPPER + REST;
+    let room = [TOP_NONE, checkpoint, checkpoint, message, message - e];
+    let floor = [REST_REST, REST_REST, REST_REST, TOP_REST, TOP_TOP];
     let masks = [0, 0, 0, 18446744073709551615, 0];
     if !rears(t, n, e) {
         return false;
@@ -243,7 +251,7 @@ pub fn table_size(n: usize, e: usize) -> usize
     requires { ⌜ (n ≤ 16) × (e ≤ 1024) ⌝ }
     ensures { λ r. ⌜ r ≡ size n e ⌝ }
 {
-    8 + 12 * n * (e + 1)
+    8 + 4 * n * (HEADING + WIDTH * e)
 }
 
 // The first row of the lent table that is met, or 0.
@@ -253,8 +261,8 @@ pub fn table_row(t: &[u8]) -> u32
     if t.len() < 8 {
         return 2;
     }
-    let n = xdr::size(t, 0);
-    let e = xdr::size(t, 1);
+    let n = xdr::get_usize(t, 0);
+    let e = xdr::get_usize(t, 1);
     if !in_range(n, e) {
         return 1;
     }

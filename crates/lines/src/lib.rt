@@ -14,7 +14,7 @@ fn position_of(t: &[u8], e: usize, p: usize, m: usize) -> u32
     ensures { λ r. ⌜ r ≡ numbered m (sectionAt (word (now (t .entry))) e p) ⌝ }
 {
     let at = layout::start(e, p);
-    scans::position(t, at + 3, xdr::size(t, at), m) as u32
+    scans::position(t, at + 3, xdr::get_usize(t, at), m) as u32
 }
 
 // Writes the positions of all n processes.
@@ -36,7 +36,7 @@ fn line_row(t: &[u8], len: usize) -> u32
     if row != 0 {
         return row;
     }
-    if len != 4 * xdr::size(t, 0) {
+    if len != 4 * xdr::get_usize(t, 0) {
         return 4;
     }
     0
@@ -49,8 +49,8 @@ pub fn line(table: &[u8], area: &mut [u8], number: u32) -> u32
     if row != 0 {
         return row;
     }
-    let n = xdr::size(table, 0);
-    let e = xdr::size(table, 1);
+    let n = xdr::get_usize(table, 0);
+    let e = xdr::get_usize(table, 1);
     fill(table, area, n, e, number as usize);
     0
 }

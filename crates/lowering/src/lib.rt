@@ -37,8 +37,8 @@ fn top(t: &[u8], e: usize, p: usize, down: bool) -> cuts::Part
     ensures { λ r. ⌜ (r .position ≡ topOf down (history (decoded (now (t .entry))) p)) × (r .sends ≡ sendsOf (upto (r .position) (history (decoded (now (t .entry))) p))) ⌝ }
 {
     let at = layout::start(e, p);
-    let c = xdr::size(t, at);
-    let k = xdr::size(t, at + 2);
+    let c = xdr::get_usize(t, at);
+    let k = xdr::get_usize(t, at + 2);
     if down {
         return cuts::back_to(t, at + 3, c, k, c);
     }
@@ -94,7 +94,7 @@ fn note_all(t: &[u8], n: usize, e: usize, to: &mut [u8])
     let mut p: usize = 0;
     while p < n {
         let at = layout::start(e, p);
-        cuts::note(t, at + 3, xdr::size(t, at), e, p, to);
+        cuts::note(t, at + 3, xdr::get_usize(t, at), e, p, to);
         p += 1;
     }
 }

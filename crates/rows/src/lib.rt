@@ -18,7 +18,7 @@ fn act_row(t: &[u8], len: usize, want: usize, p: usize) -> u32
     if row != 0 {
         return row;
     }
-    let n = xdr::size(t, 0);
+    let n = xdr::get_usize(t, 0);
     if len != want {
         return 4;
     }
@@ -35,13 +35,13 @@ pub fn checkpoint_row(t: &[u8], len: usize, p: usize) -> u32
     if row != 0 {
         return row;
     }
-    let n = xdr::size(t, 0);
-    let e = xdr::size(t, 1);
+    let n = xdr::get_usize(t, 0);
+    let e = xdr::get_usize(t, 1);
     let at = layout::start(e, p);
-    if e < xdr::size(t, at) + 1 {
+    if e < xdr::get_usize(t, at) + 1 {
         return 9;
     }
-    if xdr::size(t, at + 1) == n * e {
+    if xdr::get_usize(t, at + 1) == n * e {
         return 10;
     }
     0
@@ -55,7 +55,7 @@ fn pair_row(t: &[u8], len: usize, p: usize, q: usize) -> u32
     if row != 0 {
         return row;
     }
-    if (xdr::size(t, 0) <= q) | (q == p) {
+    if (xdr::get_usize(t, 0) <= q) | (q == p) {
         return 6;
     }
     0
@@ -68,8 +68,8 @@ pub fn send_row(t: &[u8], len: usize, p: usize, q: usize) -> u32
     if row != 0 {
         return row;
     }
-    let e = xdr::size(t, 1);
-    if e < xdr::size(t, layout::start(e, p)) + 1 {
+    let e = xdr::get_usize(t, 1);
+    if e < xdr::get_usize(t, layout::start(e, p)) + 1 {
         return 9;
     }
     0
@@ -93,8 +93,8 @@ fn message_row(t: &[u8], e: usize, at: usize, from: usize, p: usize, q: usize, k
     requires { ⌜ (e ≤ 1024) × (at ≤ 65536) × (from ≤ 65536) × (word (now t) at ≤ e) × (word (now t) from ≤ e) × (4 * (at + 3 + 3 * e) ≤ length (now t)) × (4 * (from + 3 + 3 * e) ≤ length (now t)) ⌝ }
     ensures { λ r. ⌜ (r .row ≡ first (receiptRowsAt (now (t .entry)) e at from p q k)) × (r .row ≡ 0 → r .carried ≡ carried (sectionOf (word (now (t .entry))) from) k) ⌝ }
 {
-    let c = xdr::size(t, at);
-    let m = scans::find_send(t, from + 3, xdr::size(t, from), k);
+    let c = xdr::get_usize(t, at);
+    let m = scans::find_send(t, from + 3, xdr::get_usize(t, from), k);
     let carried = m.carried;
     if !(m.found & ((m.to as usize) == p)) {
         return Message { row: 7, carried };
@@ -115,6 +115,6 @@ pub fn receipt_row(t: &[u8], len: usize, p: usize, q: usize, k: usize) -> Messag
     if row != 0 {
         return Message { row, carried: 0 };
     }
-    let e = xdr::size(t, 1);
+    let e = xdr::get_usize(t, 1);
     message_row(t, e, layout::start(e, p), layout::start(e, q), p, q, k)
 }

@@ -60,7 +60,10 @@ pub fn has_receipt(t: &[u8], at: usize, c: usize, q: usize, k: usize) -> bool
     let mut i: usize = 0;
     while i < c {
         let w = at + 3 * i;
-        if (xdr::size(t, w) == 4) & (xdr::size(t, w + 1) == q) & (xdr::size(t, w + 2) == k) {
+        if (xdr::get_usize(t, w) == 4)
+            & (xdr::get_usize(t, w + 1) == q)
+            & (xdr::get_usize(t, w + 2) == k)
+        {
             return true;
         }
         i += 1;
@@ -81,8 +84,8 @@ pub fn position(t: &[u8], at: usize, c: usize, m: usize) -> usize
     while i < c {
         let w = at + 3 * i;
         i += 1;
-        if m <= xdr::size(t, w + 1) {
-            let kind = xdr::size(t, w);
+        if m <= xdr::get_usize(t, w + 1) {
+            let kind = xdr::get_usize(t, w);
             if !((kind == 4) | (kind == 3)) {
                 return i;
             }

@@ -76,7 +76,7 @@ module _ (n E : ℕ) (d : InRange n E) where
         ap (λ (r : ℕ). judged r t area t (numberedLine N (decoded t)))
         (first-append (tableRows t) (lineRows (word t 0) (length area)) unmet-rows)
         ∙ rw (layout-n n E d s M, layout-decoded n E d s M, eq-eqb (length area) (4 * n) l) (
-          ap (outcome 0 t) (whole-put area (numberedLine N s) (l ∙ ap (λ (k : ℕ). 4 * k) (sym many))))
+        ap (outcome 0 t) (whole-put area (numberedLine N s) (l ∙ ap (λ (k : ℕ). 4 * k) (sym many))))
 
   outcomes-said : (l : List Entry) (s : State) → Made n E s → outcomesOn (layout n E s) l ≡ saidAll n E s l
   outcomes-said [] s M = refl

@@ -43,8 +43,8 @@ mul-size c = search needs
 add-size : tie.Need-add-size Inv-loop μ-loop
 add-size c = search needs
 
-size-requires : tie.Need-size-requires Inv-loop μ-loop
-size-requires c κs =
+get-usize-requires : tie.Need-get-usize-requires Inv-loop μ-loop
+get-usize-requires c κs =
     let c4 = c .before .before .before .before in
     let a = c4 .args in
     let m = back-more (word (a .t .now)) (a .at) (a .r) (c .before .before .loop .i) (c .before .saved .ensures) (c .if1 .taken)
@@ -61,7 +61,7 @@ sub-sends c =
     let c6 = c4 .before .before in
     let a = c6 .args in
     let m = back-more (word (a .t .now)) (a .at) (a .r) (c4 .loop .i) (c3 .saved .ensures) (c .before .before .if1 .taken) in
-    sends-back (word (a .t .now)) (a .at) m refl (c .before .size .ensures .0) (c4 .loop .inv .1) (c .pick .ensures) .0
+    sends-back (word (a .t .now)) (a .at) m refl (c .before .get-usize .ensures .0) (c4 .loop .inv .1) (c .pick .ensures) .0
 
 loop-less : tie.Need-loop-less Inv-loop μ-loop
 loop-less c =
@@ -82,7 +82,7 @@ loop-again c =
     let s = c4 .loop in
     let m = back-more w (a .at) (a .r) (s .i) (c3 .saved .ensures) (c .before .before .if1 .taken) in (
       back-next w (a .at) (a .r) (s .i) (c3 .saved .ensures) (c .before .before .if1 .taken) (s .inv .0) refl,
-      sends-back w (a .at) m refl (c .before .size .ensures .0) (s .inv .1) (c .pick .ensures) .1,
+      sends-back w (a .at) m refl (c .before .get-usize .ensures .0) (s .inv .1) (c .pick .ensures) .1,
       omega arith,
     )
 
@@ -105,7 +105,7 @@ back-to-spec =
     sub-i
     mul-size
     add-size
-    size-requires
+    get-usize-requires
     pick-requires
     sub-sends
     loop-less

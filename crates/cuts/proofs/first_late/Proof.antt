@@ -29,11 +29,11 @@ add-w c = search needs
 add-size : tie.Need-add-size Inv-loop μ-loop
 add-size c = search needs
 
-size-requires : tie.Need-size-requires Inv-loop μ-loop
-size-requires c κs = search needs
+get-usize-requires : tie.Need-get-usize-requires Inv-loop μ-loop
+get-usize-requires c κs = search needs
 
-size-requires-2 : tie.Need-size-requires-2 Inv-loop μ-loop
-size-requires-2 c κs = search needs
+get-usize-requires-2 : tie.Need-get-usize-requires-2 Inv-loop μ-loop
+get-usize-requires-2 c κs = search needs
 
 mul-wide : tie.Need-mul-wide Inv-loop μ-loop
 mul-wide c = search needs
@@ -47,8 +47,8 @@ wide-requires c κs = search needs
 add-size-2 : tie.Need-add-size-2 Inv-loop μ-loop
 add-size-2 c = search needs
 
-size-requires-3 : tie.Need-size-requires-3 Inv-loop μ-loop
-size-requires-3 c κs = search needs
+get-usize-requires-3 : tie.Need-get-usize-requires-3 Inv-loop μ-loop
+get-usize-requires-3 c κs = search needs
 
 returns : tie.Need-returns Inv-loop μ-loop
 returns c =
@@ -60,7 +60,7 @@ returns c =
     let a = c10 .args in
     let w = word (a .t .now) in
     let s = c7 .loop in
-    let e = late-event w (a .at) (a .sends .now) (s .i) (c4 .size2 .ensures .0) (c5 .size .ensures .0) (c .before .size3 .ensures .0)
+    let e = late-event w (a .at) (a .sends .now) (s .i) (c4 .get-usize2 .ensures .0) (c5 .get-usize .ensures .0) (c .before .get-usize3 .ensures .0)
     (c .before .before .wide .ensures) in
     first-found w (a .at) (late (a .sends .now)) (c6 .loop-test .taken) (s .inv .0) (sym e ∙ c .if1 .taken)
 
@@ -79,7 +79,7 @@ loop-again c =
     let a = c10 .args in
     let w = word (a .t .now) in
     let s = c7 .loop in
-    let e = late-event w (a .at) (a .sends .now) (s .i) (c4 .size2 .ensures .0) (c5 .size .ensures .0) (c .before .size3 .ensures .0)
+    let e = late-event w (a .at) (a .sends .now) (s .i) (c4 .get-usize2 .ensures .0) (c5 .get-usize .ensures .0) (c .before .get-usize3 .ensures .0)
     (c .before .before .wide .ensures) in
     (none-next w (a .at) (late (a .sends .now)) (s .i) (s .inv .0) (sym e ∙ c .if1 .left), search needs)
 
@@ -100,13 +100,13 @@ first-late-spec =
     mul-w
     add-w
     add-size
-    size-requires
-    size-requires-2
+    get-usize-requires
+    get-usize-requires-2
     mul-wide
     shared-slice-read-wide
     wide-requires
     add-size-2
-    size-requires-3
+    get-usize-requires-3
     returns
     add-i
     loop-less

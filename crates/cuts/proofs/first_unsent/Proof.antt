@@ -30,20 +30,20 @@ add-w c = search needs
 add-size : tie.Need-add-size Inv-loop μ-loop
 add-size c = search needs
 
-size-requires : tie.Need-size-requires Inv-loop μ-loop
-size-requires c κs = search needs
+get-usize-requires : tie.Need-get-usize-requires Inv-loop μ-loop
+get-usize-requires c κs = search needs
 
 add-size-2 : tie.Need-add-size-2 Inv-loop μ-loop
 add-size-2 c = search needs
 
-size-requires-2 : tie.Need-size-requires-2 Inv-loop μ-loop
-size-requires-2 c κs = search needs
+get-usize-requires-2 : tie.Need-get-usize-requires-2 Inv-loop μ-loop
+get-usize-requires-2 c κs = search needs
 
 place-requires : tie.Need-place-requires Inv-loop μ-loop
 place-requires c κs = search needs
 
-size-requires-3 : tie.Need-size-requires-3 Inv-loop μ-loop
-size-requires-3 c κs = search needs
+get-usize-requires-3 : tie.Need-get-usize-requires-3 Inv-loop μ-loop
+get-usize-requires-3 c κs = search needs
 
 shared-slice-read-if1 : tie.Need-shared-slice-read-if1 Inv-loop μ-loop
 shared-slice-read-if1 c =
@@ -52,7 +52,7 @@ shared-slice-read-if1 c =
     let c9 = c4 .before .before .before .before .before in
     let a = c9 .args in
     let m = place-in
-    (a .e) (length (a .to .now)) (c4 .size .result) (c3 .size2 .result) (omega arith) in rw (c .before .before .place .ensures) m
+    (a .e) (length (a .to .now)) (c4 .get-usize .result) (c3 .get-usize2 .result) (omega arith) in rw (c .before .before .place .ensures) m
 
 returns : tie.Need-returns Inv-loop μ-loop
 returns c =
@@ -66,7 +66,7 @@ returns c =
     let w = word (a .t .now) in
     let s = c7 .loop in
     first-found w (a .at) (unsent (a .e) (a .p) (a .to .now)) (c6 .loop-test .taken) (s .inv .0)
-    (sym (unsent-event w (a .at) (a .e) (a .p) (a .to .now) (s .i) (c .before .before .size3 .ensures .0) (c5 .size .ensures .0) (c4 .size2 .ensures .0) (c3 .place .ensures)) ∙ c .if1 .taken)
+    (sym (unsent-event w (a .at) (a .e) (a .p) (a .to .now) (s .i) (c .before .before .get-usize3 .ensures .0) (c5 .get-usize .ensures .0) (c4 .get-usize2 .ensures .0) (c3 .place .ensures)) ∙ c .if1 .taken)
 
 add-i : tie.Need-add-i Inv-loop μ-loop
 add-i c = search needs
@@ -85,7 +85,7 @@ loop-again c =
     let w = word (a .t .now) in
     let s = c7 .loop in (
       none-next w (a .at) (unsent (a .e) (a .p) (a .to .now)) (s .i) (s .inv .0)
-          (sym (unsent-event w (a .at) (a .e) (a .p) (a .to .now) (s .i) (c .before .before .size3 .ensures .0) (c5 .size .ensures .0) (c4 .size2 .ensures .0) (c3 .place .ensures)) ∙ c .if1 .left),
+          (sym (unsent-event w (a .at) (a .e) (a .p) (a .to .now) (s .i) (c .before .before .get-usize3 .ensures .0) (c5 .get-usize .ensures .0) (c4 .get-usize2 .ensures .0) (c3 .place .ensures)) ∙ c .if1 .left),
       search needs,
     )
 
@@ -106,11 +106,11 @@ first-unsent-spec =
     mul-w
     add-w
     add-size
-    size-requires
+    get-usize-requires
     add-size-2
-    size-requires-2
+    get-usize-requires-2
     place-requires
-    size-requires-3
+    get-usize-requires-3
     shared-slice-read-if1
     returns
     add-i

@@ -30,21 +30,21 @@ mul-w c = search needs
 add-w : tie.Need-add-w Inv-loop μ-loop
 add-w c = search needs
 
-size-requires : tie.Need-size-requires Inv-loop μ-loop
-size-requires c κs = search needs
+get-usize-requires : tie.Need-get-usize-requires Inv-loop μ-loop
+get-usize-requires c κs = search needs
 
 add-size : tie.Need-add-size Inv-loop μ-loop
 add-size c = search needs
 
-size-requires-2 : tie.Need-size-requires-2 Inv-loop μ-loop
-size-requires-2 c κs = search needs
+get-usize-requires-2 : tie.Need-get-usize-requires-2 Inv-loop μ-loop
+get-usize-requires-2 c κs = search needs
 
 pick-requires : tie.Need-pick-requires Inv-loop μ-loop
 pick-requires c κs = search needs
 
 cast-to : tie.Need-cast-to Inv-loop μ-loop
 cast-to c =
-    let m = note-small (eqb (c .before .before .size .result) 3) (c .before .size2 .result) (c .pick .ensures) in
+    let m = note-small (eqb (c .before .before .get-usize .result) 3) (c .before .get-usize2 .result) (c .pick .ensures) in
     omega arith
 
 mul-to : tie.Need-mul-to Inv-loop μ-loop
@@ -79,8 +79,8 @@ loop-again c =
     let a = c8 .args in
     let w = word (a .t .now) in
     let s = c5 .loop in
-    let more = sends-next w (a .at) (s .i) (c3 .size .ensures .0) (s .inv .1) (c .pick2 .ensures) in (
-      note-next w (a .at) (a .e) (a .q) (a .to .now) (s .i) (c3 .size .ensures .0) (c .before .before .size2 .ensures .0)
+    let more = sends-next w (a .at) (s .i) (c3 .get-usize .ensures .0) (s .inv .1) (c .pick2 .ensures) in (
+      note-next w (a .at) (a .e) (a .q) (a .to .now) (s .i) (c3 .get-usize .ensures .0) (c .before .before .get-usize2 .ensures .0)
           (s .inv .0) (s .inv .1) (c .before .pick .ensures),
       more,
       search needs,
@@ -107,9 +107,9 @@ note-spec =
     loop-holds
     mul-w
     add-w
-    size-requires
+    get-usize-requires
     add-size
-    size-requires-2
+    get-usize-requires-2
     pick-requires
     cast-to
     mul-to

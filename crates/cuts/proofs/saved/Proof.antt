@@ -16,14 +16,14 @@ mul-size c = search needs
 add-size : tie.Need-add-size
 add-size c = search needs
 
-size-requires : tie.Need-size-requires
-size-requires c κs = search needs
+get-usize-requires : tie.Need-get-usize-requires
+get-usize-requires c κs = search needs
 
 returns-2 : tie.Need-returns-2
 returns-2 c =
     let c3 = c .before .before .before in
     let a = c3 .args in
-    saved-next (word (a .t .now)) (a .at) (c .before .if1 .left) (c .size .ensures .0)
+    saved-next (word (a .t .now)) (a .at) (c .before .if1 .left) (c .get-usize .ensures .0)
 
 pub saved-spec : {M : Type 1} → statement M
-saved-spec = tie.close (tie.spec returns sub-size mul-size add-size size-requires returns-2)
+saved-spec = tie.close (tie.spec returns sub-size mul-size add-size get-usize-requires returns-2)

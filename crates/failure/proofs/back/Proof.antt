@@ -21,8 +21,8 @@ loop-holds c = ((refl, refl, omega arith, omega arith), search needs)
 start-requires : tie.Need-start-requires Inv-loop μ-loop
 start-requires c κs = search needs
 
-size-requires : tie.Need-size-requires Inv-loop μ-loop
-size-requires c κs =
+get-usize-requires : tie.Need-get-usize-requires Inv-loop μ-loop
+get-usize-requires c κs =
     let c3 = c .before .before .before in
     let c4 = c3 .before in
     let a = c4 .args in
@@ -52,7 +52,7 @@ add-mask c =
     let a = c7 .args in
     let s = c5 .loop in
     let F = found-next (a .t .now) (λ i. omega (arith, c6 .shared-slice-known .given i)) (c7 .pre) (a .t4) (s .p) (c4 .loop-test .taken)
-    (c3 .start .ensures .0) (c .before .before .size .ensures .0) (s .inv .0) (c .before .wide .ensures) (c .pick .ensures) in
+    (c3 .start .ensures .0) (c .before .before .get-usize .ensures .0) (s .inv .0) (c .before .wide .ensures) (c .pick .ensures) in
     omega (arith, F .2, F .3)
 
 mul-bit : tie.Need-mul-bit Inv-loop μ-loop
@@ -74,7 +74,7 @@ loop-again c =
     let a = c7 .args in
     let s = c5 .loop in (
       found-next (a .t .now) (λ i. omega (arith, c6 .shared-slice-known .given i)) (c7 .pre) (a .t4) (s .p) (c4 .loop-test .taken)
-          (c3 .start .ensures .0) (c .before .before .size .ensures .0) (s .inv .0) (c .before .wide .ensures) (c .pick .ensures),
+          (c3 .start .ensures .0) (c .before .before .get-usize .ensures .0) (s .inv .0) (c .before .wide .ensures) (c .pick .ensures),
       omega arith,
     )
 
@@ -97,7 +97,7 @@ back-spec =
     μ-loop
     loop-holds
     start-requires
-    size-requires
+    get-usize-requires
     mul-wide
     array-read-wide
     wide-requires

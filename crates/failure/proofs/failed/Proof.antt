@@ -15,8 +15,8 @@ returns c =
     let a = c4 .args in
     failed-refused (a .table .now) (a .area .now) (a .mask) (c .before .failed-row .ensures) (c .if1 .taken)
 
-size-requires : tie.Need-size-requires
-size-requires c κs =
+get-usize-requires : tie.Need-get-usize-requires
+get-usize-requires c κs =
     let c3 = c .before .before .before in
     let c4 = c3 .before in
     let a = c4 .args in
@@ -25,8 +25,8 @@ size-requires c κs =
     let l = long (a .table .now) refl (Q .laid .0) in
     omega arith
 
-size-requires-2 : tie.Need-size-requires-2
-size-requires-2 c κs =
+get-usize-requires-2 : tie.Need-get-usize-requires-2
+get-usize-requires-2 c κs =
     let c4 = c .before .before .before .before in
     let c5 = c4 .before in
     let a = c5 .args in
@@ -42,7 +42,7 @@ positions-requires c κs =
     let c6 = c5 .before in
     let a = c6 .args in
     asked (a .table .now) (a .area .now) (a .mask) (λ i. omega (arith, c5 .shared-slice-known .given i)) (c3 .failed-row .ensures)
-    (c .before .before .if1 .left) (c .before .size .ensures .0) (c .size2 .ensures .0) .laid
+    (c .before .before .if1 .left) (c .before .get-usize .ensures .0) (c .get-usize2 .ensures .0) .laid
 
 back-requires : tie.Need-back-requires
 back-requires c κs =
@@ -53,7 +53,7 @@ back-requires c κs =
     let c8 = c7 .before in
     let a = c8 .args in
     asked (a .table .now) (a .area .now) (a .mask) (λ i. omega (arith, c7 .shared-slice-known .given i)) (c5 .failed-row .ensures)
-    (c4 .if1 .left) (c3 .size .ensures .0) (c .before .before .size2 .ensures .0) .laid
+    (c4 .if1 .left) (c3 .get-usize .ensures .0) (c .before .before .get-usize2 .ensures .0) .laid
 
 answer-requires : tie.Need-answer-requires
 answer-requires c κs =
@@ -65,7 +65,7 @@ answer-requires c κs =
     let c9 = c8 .before in
     let a = c9 .args in
     let Q = asked (a .table .now) (a .area .now) (a .mask) (λ i. omega (arith, c8 .shared-slice-known .given i))
-    (c6 .failed-row .ensures) (c5 .if1 .left) (c4 .size .ensures .0) (c3 .size2 .ensures .0) in
+    (c6 .failed-row .ensures) (c5 .if1 .left) (c4 .get-usize .ensures .0) (c3 .get-usize2 .ensures .0) in
     (Q .laid .3, omega (arith, Q .area), c .before .before .positions .ensures .1)
 
 same-length : tie.Need-same-length
@@ -84,8 +84,8 @@ returns-2 c =
     let c12 = c11 .before in
     let a = c12 .args in
     failed-done (a .table .now) (a .area .now) (λ i. omega (arith, c11 .shared-slice-known .given i))
-    (λ i. omega (arith, c10 .slice-known .given i)) (a .mask) (c9 .failed-row .ensures) (c8 .if1 .left) (c7 .size .ensures .0)
-    (c6 .size2 .ensures .0) (c5 .positions .result) (c5 .positions .ensures .0) (c5 .positions .ensures .1) (c3 .back .ensures)
+    (λ i. omega (arith, c10 .slice-known .given i)) (a .mask) (c9 .failed-row .ensures) (c8 .if1 .left) (c7 .get-usize .ensures .0)
+    (c6 .get-usize2 .ensures .0) (c5 .positions .result) (c5 .positions .ensures .0) (c5 .positions .ensures .1) (c3 .back .ensures)
     (c .before .before .answer .ensures)
 
 pub failed-spec : {M : Type 1} → statement M
@@ -94,8 +94,8 @@ failed-spec =
     (tie.spec
     failed-row-requires
     returns
-    size-requires
-    size-requires-2
+    get-usize-requires
+    get-usize-requires-2
     positions-requires
     back-requires
     answer-requires

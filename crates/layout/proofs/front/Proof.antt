@@ -3,12 +3,12 @@ use mathlib.Core.Path.{_≡_}
 use native.Mathlib.Omega.{arith}
 use borrow.Author.Needs.{needs}
 use Rattle.xdr.specs.Words.{word}
-use Rattle.layout.proofs.Laws.{front-fold}
+use Rattle.layout.proofs.Sections.{front-fold}
 use Rattle.layout.proofs.front.Statement.{statement}
 use Rattle.layout.proofs.front.Tie as tie
 
-size-requires : tie.Need-size-requires
-size-requires c κs = search needs
+get-usize-requires : tie.Need-get-usize-requires
+get-usize-requires c κs = search needs
 
 add-used : tie.Need-add-used
 add-used c = search needs
@@ -29,8 +29,8 @@ returns c =
     let size = used .before in
     let a = size .before .before .before .before .before .args in
     let two : a .at + 1 + 1 ≡ a .at + 2 = omega arith in
-    front-fold (a .e) (word (a .t .now)) (size .size .ensures .0) (a .n) (a .p) (used .used .result .marks) (omega arith) (used .used .ensures .0)
+    front-fold (a .e) (word (a .t .now)) (size .get-usize .ensures .0) (a .n) (a .p) (used .used .result .marks) (omega arith) (used .used .ensures .0)
     (used .used .ensures .1) (omega (arith, used .used .ensures .2)) (rw two at (pair .pair .ensures .2)) (rw two at (pair .pair .ensures .0))
 
 pub front-spec : {M : Type 1} → statement M
-front-spec = tie.close (tie.spec size-requires add-used used-requires add-pair pair-requires returns)
+front-spec = tie.close (tie.spec get-usize-requires add-used used-requires add-pair pair-requires returns)

@@ -6,7 +6,7 @@ use borrow.Author.Needs.{needs}
 use Rattle.xdr.specs.Words.{word}
 use Rattle.rules.specs.Table.{start}
 use Rattle.layout.specs.Sections.{every, frontOk}
-use Rattle.layout.proofs.Laws.{start-most, rears-count, every-next, every-not}
+use Rattle.layout.proofs.Sections.{start-most, rears-count, every-next, every-not}
 use Rattle.layout.proofs.fronts.Statement.{statement}
 use Rattle.layout.proofs.fronts.Tie as tie
 
@@ -25,13 +25,11 @@ front-requires c κs =
     let start = c .before .before .before .before .before .before in
     let a = start .args in
     let most = start-most (a .e) (loop .p) (a .n) (omega arith) in
-    let count = rears-count (a .e) (word (a .t .now)) (a .n) (loop .p) (omega arith) (start .pre .6) in (
+    let count = rears-count (a .e) (word (a .t .now)) (a .n) (loop .p) (omega arith) (start .pre .4) in (
       omega arith,
       omega arith,
       omega arith,
       start .pre .2,
-      start .pre .3,
-      start .pre .4,
       omega arith,
       subst (λ (i : ℕ). word (a .t .now) i ≤ a .e) (sym (loop .inv .1)) count,
     )
@@ -88,8 +86,8 @@ fronts-spec =
     loop-holds
     front-requires
     returns
-    add-at
     mul-at
+    add-at
     add-at-2
     add-p
     loop-less

@@ -4,14 +4,14 @@ use Rattle.layout.proofs.Marks.{marks-next, sends-next}
 use Rattle.layout.proofs.next.Statement.{statement}
 use Rattle.layout.proofs.next.Tie as tie
 
-place-requires : tie.Need-place-requires
-place-requires c κs = search needs
+kind-index-requires : tie.Need-kind-index-requires
+kind-index-requires c κs = search needs
 
 mul-m : tie.Need-mul-m
 mul-m c = search needs
 
 shared-slice-read-m : tie.Need-shared-slice-read-m
-shared-slice-read-m c = rw (c .before .before .before .before .before .pre .2) (c .before .place .ensures .1)
+shared-slice-read-m c = rw (c .before .before .before .before .before .pre .2) (c .before .kind-index .ensures .1)
 
 wrapping-sub-usize-requires : tie.Need-wrapping-sub-usize-requires
 wrapping-sub-usize-requires c κs = search needs
@@ -45,7 +45,7 @@ returns c =
     let at = sends .before .before in
     let s = at .before .before .before .before in
     let a = s .args in
-    let i = at .place in
+    let i = at .kind-index in
     let k = sends .wrapping-sub-usize in
     let sent = sends-next (a .kind) (i .ensures .0) (s .pre .2) (s .pre .3) (omega arith) (k .ensures) in (
       marks-next (a .kind) (i .ensures .0) (s .pre .2) (s .pre .3) (omega arith) (k .ensures) (a .s .marks) (a .pair) (a .own) (a .room .now) (a .floor .now)
@@ -59,7 +59,7 @@ pub next-spec : {M : Type 1} → statement M
 next-spec =
     tie.close
     (tie.spec
-    place-requires
+    kind-index-requires
     mul-m
     shared-slice-read-m
     wrapping-sub-usize-requires

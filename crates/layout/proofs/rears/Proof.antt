@@ -6,7 +6,7 @@ use borrow.Author.Needs.{needs}
 use Rattle.xdr.specs.Words.{word}
 use Rattle.rules.specs.Table.{start}
 use Rattle.layout.specs.Sections.{every, rearOk}
-use Rattle.layout.proofs.Laws.{start-most, every-next, every-not}
+use Rattle.layout.proofs.Sections.{start-most, every-next, every-not}
 use Rattle.layout.proofs.rears.Statement.{statement}
 use Rattle.layout.proofs.rears.Tie as tie
 
@@ -78,8 +78,8 @@ rears-spec =
     loop-holds
     rear-requires
     returns
-    add-at
     mul-at
+    add-at
     add-at-2
     add-p
     loop-less

@@ -4,7 +4,7 @@ use borrow.Author.Needs.{needs}
 use borrow.Author.Tests.{not-true, not-false}
 use Rattle.xdr.specs.Words.{word}
 use Rattle.tables.proofs.Laid.{product}
-use Rattle.layout.proofs.Laws.{sections-rears, sections-fronts}
+use Rattle.layout.proofs.Sections.{sections-rears, sections-fronts}
 use Rattle.layout.proofs.Marks.{rooms-made}
 use Rattle.layout.proofs.sections_ok.Statement.{statement}
 use Rattle.layout.proofs.sections_ok.Tie as tie
@@ -58,9 +58,7 @@ fronts-requires c κs =
     let r = left .before .rears in (
       omega arith,
       omega arith,
-      rooms-made (a .n) (a .e) (omega arith) (omega arith),
-      refl,
-      refl,
+      (rooms-made (a .n) (a .e) (omega arith) (omega arith), refl, refl),
       omega arith,
       sym (r .ensures) ∙ not-false (r .result) (left .if1 .left),
     )

@@ -21,4 +21,4 @@ returns : tie.Need-returns
 returns c = (refl, omega (arith, product (c .args .p) (c .args .e) (omega arith) (omega arith)))
 
 pub start-spec : {M : Type 1} → statement M
-start-spec = tie.close (tie.spec add-result mul-result mul-result-2 add-result-2 returns)
+start-spec = tie.close (tie.spec mul-result add-result mul-result-2 add-result-2 returns)

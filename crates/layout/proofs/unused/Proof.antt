@@ -2,9 +2,10 @@ use Prim.Native.Nat.{_+_, _*_}
 use native.Mathlib.Omega.{arith}
 use borrow.Author.Needs.{needs}
 use Rattle.xdr.specs.Words.{word}
-use Rattle.layout.proofs.Laws.{unused-none, unused-zero}
+use Rattle.layout.proofs.Sections.{unused-none, unused-zero}
 use Rattle.layout.proofs.unused.Statement.{statement}
 use Rattle.layout.proofs.unused.Tie as tie
+use Rattle.rules.specs.Table.{width}
 
 sub-m : tie.Need-sub-m
 sub-m c = search needs
@@ -15,7 +16,7 @@ mul-m c = search needs
 returns : tie.Need-returns
 returns c =
     let a = c .before .before .args in
-    unused-none (word (a .t .now)) (a .at + 3 * a .c) (a .c) (a .e) (omega arith)
+    unused-none (word (a .t .now)) (a .at + width * a .c) (a .c) (a .e) (omega arith)
 
 mul-words : tie.Need-mul-words
 mul-words c = search needs

@@ -5,17 +5,15 @@ use native.Mathlib.Omega.{arith}
 use borrow.Author.Needs.{needs}
 use Rattle.xdr.specs.Words.{word}
 use Rattle.rules.specs.Records.{number, sends}
-use Rattle.rules.specs.Table.{recordsAt, recordsOk}
-use Rattle.layout.specs.Marks.{clear, place}
+use Rattle.rules.specs.Table.{width, recordsAt, recordsOk}
+use Rattle.layout.specs.Marks.{clear, kindIndex, Found}
 use Rattle.layout.proofs.Marks.{counts-most, clear-next, found-next}
 use Rattle.layout.proofs.used.Statement.{statement}
 use Rattle.layout.proofs.used.Tie as tie
 
 abbrev Inv-loop : tie.InvT-loop
 Inv-loop t n e p room floor masks at c own s₀ i₀ s i =
-    (clear (s .marks) ≡ recordsOk n e (word t) p at i)
-    × (recordsOk n e (word t) p at i ≡ true → (s .last ≡ number (recordsAt (word t) at i) * 4294967296) × (s .sends ≡ sends (recordsAt (word t) at i)))
-    × (s .sends ≤ i) × (i ≤ c)
+    Found n e (word t) p at i s × (i ≤ c)
 
 abbrev μ-loop : tie.MeasureT-loop
 μ-loop t n e p room floor masks at c own s₀ i₀ s i = c - i
@@ -24,7 +22,7 @@ mul-own : tie.Need-mul-own Inv-loop μ-loop
 mul-own c = search needs
 
 loop-holds : tie.Need-loop-holds Inv-loop μ-loop
-loop-holds c = (refl, λ h. (refl, refl), search needs, search needs)
+loop-holds c = ((refl, λ h. (refl, refl), search needs), search needs)
 
 mul-w : tie.Need-mul-w Inv-loop μ-loop
 mul-w c = search needs
@@ -32,8 +30,8 @@ mul-w c = search needs
 add-w : tie.Need-add-w Inv-loop μ-loop
 add-w c = search needs
 
-size-requires : tie.Need-size-requires Inv-loop μ-loop
-size-requires c κs = search needs
+get-usize-requires : tie.Need-get-usize-requires Inv-loop μ-loop
+get-usize-requires c κs = search needs
 
 add-pair : tie.Need-add-pair Inv-loop μ-loop
 add-pair c = search needs
@@ -44,7 +42,7 @@ pair-requires c κs = search needs
 next-requires : tie.Need-next-requires Inv-loop μ-loop
 next-requires c κs =
     let s = c .before .before .before .before .before .before .before .before in
-    (rw (s .pre .4) refl, rw (s .pre .5) refl, s .pre .6, search needs)
+    (rw (s .pre .4 .0) refl, rw (s .pre .4 .1) refl, s .pre .4 .2, search needs)
 
 add-i : tie.Need-add-i Inv-loop μ-loop
 add-i c = search needs
@@ -58,23 +56,25 @@ loop-again c =
     let s = loop .before .before .before .before .before in
     let a = s .args in
     let i = loop .loop .i in
-    let inv = loop .loop .inv in
-    let kind = c .before .before .size in
+    let inv = loop .loop .inv .0 in
+    let kind = c .before .before .get-usize in
     let pair = c .before .pair in
-    let two : a .at + 3 * i + 1 + 1 ≡ a .at + 3 * i + 2 = omega arith in
+    let two : a .at + width * i + 1 + 1 ≡ a .at + width * i + 2 = omega arith in
     let read = rw two at (pair .ensures .0) in
     let low = rw two at (pair .ensures .2) in
     let next = c .next .ensures in
     let sent : recordsOk (a .n) (a .e) (word (a .t .now)) (a .p) (a .at) i ≡ true → loop .loop .s .sends ≡ sends (recordsAt (word (a .t .now)) (a .at) i) =
     λ h. inv .1 h .1
     in
-    let most = counts-most (place (kind .result)) in (
-      clear-next (a .n) (a .e) (a .p) (word (a .t .now)) (a .at) i (loop .loop .s .marks) (loop .loop .s .sends) (kind .result) (pair .result) (kind .ensures .0)
-          read (pair .ensures .1) low (s .pre .4) (s .pre .5) refl (s .pre .0) (s .pre .1) (s .pre .2) (omega arith) (inv .0) sent (next .0),
-      found-next (a .n) (a .e) (a .p) (word (a .t .now)) (a .at) i (loop .loop .s .marks) (loop .loop .s .sends) (kind .result) (pair .result) (kind .ensures .0)
-          read (pair .ensures .1) low (s .pre .4) (s .pre .5) refl (s .pre .0) (s .pre .1) (s .pre .2) (omega arith) (inv .0) sent (λ h. inv .1 h .0) (next .1)
-          (next .2),
-      omega (arith, next .2, most),
+    let most = counts-most (kindIndex (kind .result)) in (
+      (
+        clear-next (a .n) (a .e) (a .p) (word (a .t .now)) (a .at) i (loop .loop .s .marks) (loop .loop .s .sends) (kind .result) (pair .result) (kind .ensures .0)
+            read (pair .ensures .1) low (s .pre .4 .0) (s .pre .4 .1) refl (s .pre .0) (s .pre .1) (s .pre .2) (omega arith) (inv .0) sent (next .0),
+        found-next (a .n) (a .e) (a .p) (word (a .t .now)) (a .at) i (loop .loop .s .marks) (loop .loop .s .sends) (kind .result) (pair .result) (kind .ensures .0)
+            read (pair .ensures .1) low (s .pre .4 .0) (s .pre .4 .1) refl (s .pre .0) (s .pre .1) (s .pre .2) (omega arith) (inv .0) sent (λ h. inv .1 h .0) (next .1)
+            (next .2),
+        omega (arith, next .2, most),
+      ),
       search needs,
     )
 
@@ -84,13 +84,7 @@ returns c =
     let a = c .before .before .before .before .before .before .args in
     let w = word (a .t .now) in
     let h : loop .i ≡ a .c = omega arith in
-    subst
-    (λ (j : ℕ). (clear (loop .s .marks) ≡ recordsOk (a .n) (a .e) w (a .p) (a .at) j)
-    × (recordsOk (a .n) (a .e) w (a .p) (a .at) j ≡ true
-    → (loop .s .last ≡ number (recordsAt w (a .at) j) * 4294967296) × (loop .s .sends ≡ sends (recordsAt w (a .at) j)))
-    × (loop .s .sends ≤ j))
-    h
-    (loop .inv .0, loop .inv .1, loop .inv .2)
+    subst (λ (j : ℕ). Found (a .n) (a .e) w (a .p) (a .at) j (loop .s)) h (loop .inv .0)
 
 pub used-spec : {M : Type 1} → statement M
 used-spec =
@@ -102,7 +96,7 @@ used-spec =
     loop-holds
     mul-w
     add-w
-    size-requires
+    get-usize-requires
     add-pair
     pair-requires
     next-requires

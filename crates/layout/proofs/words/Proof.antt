@@ -6,7 +6,7 @@ use borrow.Author.Needs.{needs}
 use lib.Dec.{eqb}
 use Rattle.xdr.specs.Words.{word}
 use Rattle.rules.specs.Table.{zerosAt}
-use Rattle.layout.proofs.Laws.{zeros-two, zeros-next, zeros-all}
+use Rattle.layout.proofs.Sections.{zeros-two, zeros-next, zeros-all}
 use Rattle.layout.proofs.words.Statement.{statement}
 use Rattle.layout.proofs.words.Tie as tie
 

@@ -14,8 +14,8 @@ returns c =
     let t = a .table .now in
     line-refused t (a .area .now) (a .number) (c .before .line-row .ensures) (c .if1 .taken)
 
-size-requires : tie.Need-size-requires
-size-requires c κs =
+get-usize-requires : tie.Need-get-usize-requires
+get-usize-requires c κs =
     let c3 = c .before .before .before in
     let c4 = c3 .before in
     let a = c4 .args in
@@ -24,8 +24,8 @@ size-requires c κs =
     (c .if1 .left) in
     omega (arith, Q .table .is .whole)
 
-size-requires-2 : tie.Need-size-requires-2
-size-requires-2 c κs =
+get-usize-requires-2 : tie.Need-get-usize-requires-2
+get-usize-requires-2 c κs =
     let c4 = c .before .before .before .before in
     let c5 = c4 .before in
     let a = c5 .args in
@@ -46,10 +46,10 @@ fill-requires c κs =
       omega (arith, Q .table .range .processes),
       omega (arith, Q .table .range .records),
       rw
-          (c .before .before .size .ensures .0, c .before .size2 .ensures .0) (omega (arith, Q .table .is .whole)),
+          (c .before .before .get-usize .ensures .0, c .before .get-usize2 .ensures .0) (omega (arith, Q .table .is .whole)),
       omega
           (arith, Q .area),
-      counts t (Q .table) (c .before .before .size .ensures .0) (c .before .size2 .ensures .0),
+      counts t (Q .table) (c .before .before .get-usize .ensures .0) (c .before .get-usize2 .ensures .0),
     )
 
 same-length : tie.Need-same-length
@@ -67,7 +67,7 @@ returns-2 c =
     let a = c10 .args in
     let t = a .table .now in
     line-done t (a .area .now) (λ i. omega (arith, c9 .shared-slice-known .given i)) (λ i. omega (arith, c8 .slice-known .given i))
-    (a .number) (c7 .line-row .ensures) (c6 .if1 .left) (c5 .size .ensures .0) (c4 .size2 .ensures .0)
+    (a .number) (c7 .line-row .ensures) (c6 .if1 .left) (c5 .get-usize .ensures .0) (c4 .get-usize2 .ensures .0)
     (c .before .before .fill .ensures)
 
 pub line-spec : {M : Type 1} → statement M
@@ -76,8 +76,8 @@ line-spec =
     (tie.spec
     line-row-requires
     returns
-    size-requires
-    size-requires-2
+    get-usize-requires
+    get-usize-requires-2
     fill-requires
     same-length
     returns-2)

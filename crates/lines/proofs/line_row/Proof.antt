@@ -14,8 +14,8 @@ returns c =
     let a = c3 .args in
     line-table (a .t .now) (a .len) (c .before .table-row .ensures) (c .if1 .taken)
 
-size-requires : tie.Need-size-requires
-size-requires c κs =
+get-usize-requires : tie.Need-get-usize-requires
+get-usize-requires c κs =
     let c3 = c .before .before .before in
     let l = long (c3 .args .t .now) (c .before .table-row .ensures) (c .if1 .left) in
     omega arith
@@ -28,7 +28,7 @@ returns-2 c =
     let c3 = c .before .before .before in
     let c5 = c3 .before .before in
     let a = c5 .args in
-    line-area (a .t .now) (a .len) (c3 .table-row .ensures) (c .before .before .if1 .left) (c .before .size .ensures .0)
+    line-area (a .t .now) (a .len) (c3 .table-row .ensures) (c .before .before .if1 .left) (c .before .get-usize .ensures .0)
     (c .if2 .taken)
 
 returns-3 : tie.Need-returns-3
@@ -36,9 +36,9 @@ returns-3 c =
     let c3 = c .before .before .before in
     let c5 = c3 .before .before in
     let a = c5 .args in
-    line-none (a .t .now) (a .len) (c3 .table-row .ensures) (c .before .before .if1 .left) (c .before .size .ensures .0)
+    line-none (a .t .now) (a .len) (c3 .table-row .ensures) (c .before .before .if1 .left) (c .before .get-usize .ensures .0)
     (c .if2 .left)
 
 pub line-row-spec : {M : Type 1} → statement M
 line-row-spec =
-    tie.close (tie.spec table-row-requires returns size-requires mul-if2 returns-2 returns-3)
+    tie.close (tie.spec table-row-requires returns get-usize-requires mul-if2 returns-2 returns-3)

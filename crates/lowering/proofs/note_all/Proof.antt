@@ -26,8 +26,8 @@ start-requires c κs = search needs
 add-note : tie.Need-add-note Inv-loop μ-loop
 add-note c = search needs
 
-size-requires : tie.Need-size-requires Inv-loop μ-loop
-size-requires c κs =
+get-usize-requires : tie.Need-get-usize-requires Inv-loop μ-loop
+get-usize-requires c κs =
     let c4 = c .before .before .before .before in
     let c5 = c4 .before in
     let a = c5 .args in
@@ -45,7 +45,7 @@ note-requires c κs =
     let p = c4 .loop .p in
     let H = section (a .t .now) (λ i. omega (arith, c6 .shared-slice-known .given i)) (c7 .pre .0) p (c3 .loop-test .taken)
     (c .before .before .start .ensures .0) in
-    let z = c .before .size .ensures .0 in
+    let z = c .before .get-usize .ensures .0 in
     let m = mul-le-mul-right {m = p + 1} {n = a .n} (a .e) (omega arith) in
     (omega (arith, H .short), omega arith, omega arith, omega (arith, H .short, H .inside), omega arith)
 
@@ -67,7 +67,7 @@ loop-again c =
     let s = c7 .loop in
     let m = mul-le-mul-right {m = s .p + 1} {n = a .n} (a .e) (omega arith) in
     let u = note-turn (a .t .now) (λ i. omega (arith, c9 .shared-slice-known .given i)) (c10 .pre .0) (s .p)
-    (c6 .loop-test .taken) (c5 .start .ensures .0) (s .to) (omega arith) (s .inv .1) (s .inv .2) (c4 .size .ensures .0)
+    (c6 .loop-test .taken) (c5 .start .ensures .0) (s .to) (omega arith) (s .inv .1) (s .inv .2) (c4 .get-usize .ensures .0)
     (c .before .before .note .ensures) in
     (u .0 ∙ s .inv .0, u .1, u .2, omega arith)
 
@@ -91,7 +91,7 @@ note-all-spec =
     loop-holds
     start-requires
     add-note
-    size-requires
+    get-usize-requires
     note-requires
     add-p
     loop-less

@@ -12,8 +12,8 @@ use Rattle.lowering.proofs.top.Tie as tie
 start-requires : tie.Need-start-requires
 start-requires c κs = search needs
 
-size-requires : tie.Need-size-requires
-size-requires c κs =
+get-usize-requires : tie.Need-get-usize-requires
+get-usize-requires c κs =
     let a = c .before .before .args in
     let H = section (a .t .now) (λ i. omega (arith, c .before .shared-slice-known .given i)) (c .before .before .pre .0) (a .p)
     (c .before .before .pre .1) (c .start .ensures .0) in
@@ -22,8 +22,8 @@ size-requires c κs =
 add-size : tie.Need-add-size
 add-size c = search needs
 
-size-requires-2 : tie.Need-size-requires-2
-size-requires-2 c κs =
+get-usize-requires-2 : tie.Need-get-usize-requires-2
+get-usize-requires-2 c κs =
     let c3 = c .before .before .before in
     let a = c3 .args in
     let H = section (a .t .now) (λ i. omega (arith, c .before .before .shared-slice-known .given i)) (c3 .pre .0) (a .p)
@@ -41,11 +41,11 @@ back-to-requires c κs =
     let a = c5 .args in
     let H = section (a .t .now) (λ i. omega (arith, c4 .shared-slice-known .given i)) (c5 .pre .0) (a .p) (c5 .pre .1)
     (c3 .start .ensures .0) in
-    let z = c .before .before .size .ensures .0 in (
+    let z = c .before .before .get-usize .ensures .0 in (
       omega arith,
       omega (arith, H .short, H .most),
       omega (arith, H .short, H .inside),
-      c .before .size2 .ensures .0 ∙ H .sent ∙ ap sends (sym (H .events)) ∙ ap
+      c .before .get-usize2 .ensures .0 ∙ H .sent ∙ ap sends (sym (H .events)) ∙ ap
           (λ j. sends (recordsAt (word (a .t .now)) (c3 .start .result + 3) j)) (sym z),
     )
 
@@ -57,7 +57,7 @@ returns c =
     let c6 = c5 .before in
     let a = c6 .args in
     top-down (a .t .now) (λ i. omega (arith, c5 .shared-slice-known .given i)) (c6 .pre .0) (a .p) (c6 .pre .1)
-    (c4 .start .ensures .0) (c3 .size .ensures .0) (c .before .if1 .taken) (c .back-to .ensures .0) (c .back-to .ensures .1)
+    (c4 .start .ensures .0) (c3 .get-usize .ensures .0) (c .before .if1 .taken) (c .back-to .ensures .0) (c .back-to .ensures .1)
 
 returns-2 : tie.Need-returns-2
 returns-2 c =
@@ -66,16 +66,16 @@ returns-2 c =
     let c5 = c4 .before in
     let a = c5 .args in
     top-up (a .t .now) (λ i. omega (arith, c4 .shared-slice-known .given i)) (c5 .pre .0) (a .p) (c5 .pre .1)
-    (c3 .start .ensures .0) (c .before .before .size .ensures .0) (c .if1 .left) (c .before .size2 .ensures .0)
+    (c3 .start .ensures .0) (c .before .before .get-usize .ensures .0) (c .if1 .left) (c .before .get-usize2 .ensures .0)
 
 pub top-spec : {M : Type 1} → statement M
 top-spec =
     tie.close
     (tie.spec
     start-requires
-    size-requires
+    get-usize-requires
     add-size
-    size-requires-2
+    get-usize-requires-2
     add-back-to
     back-to-requires
     returns

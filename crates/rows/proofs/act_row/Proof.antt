@@ -14,8 +14,8 @@ returns c =
     let a = c3 .args in
     act-table (a .t .now) (a .len) (a .want) (a .p) (c .before .table-row .ensures) (c .if1 .taken)
 
-size-requires : tie.Need-size-requires
-size-requires c κs =
+get-usize-requires : tie.Need-get-usize-requires
+get-usize-requires c κs =
     let c3 = c .before .before .before in
     let l = long (c3 .args .t .now) (c .before .table-row .ensures) (c .if1 .left) in
     omega arith
@@ -34,7 +34,7 @@ returns-3 c =
     let c6 = c4 .before .before in
     let a = c6 .args in
     act-process (a .t .now) (a .len) (a .want) (a .p) (c4 .table-row .ensures) (c3 .if1 .left) (c .before .if2 .left)
-    (c .before .before .size .ensures .0) (c .if3 .taken)
+    (c .before .before .get-usize .ensures .0) (c .if3 .taken)
 
 returns-4 : tie.Need-returns-4
 returns-4 c =
@@ -43,8 +43,8 @@ returns-4 c =
     let c6 = c4 .before .before in
     let a = c6 .args in
     act-none (a .t .now) (a .len) (a .want) (a .p) (c4 .table-row .ensures) (c3 .if1 .left) (c .before .if2 .left)
-    (c .before .before .size .ensures .0) (c .if3 .left)
+    (c .before .before .get-usize .ensures .0) (c .if3 .left)
 
 pub act-row-spec : {M : Type 1} → statement M
 act-row-spec =
-    tie.close (tie.spec table-row-requires returns size-requires returns-2 returns-3 returns-4)
+    tie.close (tie.spec table-row-requires returns get-usize-requires returns-2 returns-3 returns-4)

@@ -17,16 +17,16 @@ returns c =
     let a = c3 .args in
     step-stopped (a .t .now) (a .p) checkpoint (a .len) (c .before .act-row .ensures) (c .if1 .taken)
 
-size-requires : tie.Need-size-requires
-size-requires c κs =
+get-usize-requires : tie.Need-get-usize-requires
+get-usize-requires c κs =
     let c3 = c .before .before .before in
     let a = c3 .args in
     let w = acts (a .t .now) (λ i. omega (arith, c .before .before .shared-slice-known .given i)) (a .len) 4 (a .p)
     (c .before .act-row .ensures) (c .if1 .left) in
     omega (arith, w .table .is .whole)
 
-size-requires-2 : tie.Need-size-requires-2
-size-requires-2 c κs =
+get-usize-requires-2 : tie.Need-get-usize-requires-2
+get-usize-requires-2 c κs =
     let c3 = c .before .before .before in
     let c4 = c3 .before in
     let a = c4 .args in
@@ -44,8 +44,8 @@ start-requires c κs =
     (c .before .before .if1 .left) in
     omega (arith, w .below, w .table .range .processes, w .table .range .records)
 
-size-requires-3 : tie.Need-size-requires-3
-size-requires-3 c κs =
+get-usize-requires-3 : tie.Need-get-usize-requires-3
+get-usize-requires-3 c κs =
     let c3 = c .before .before .before in
     let c4 = c3 .before in
     let c5 = c4 .before in
@@ -53,7 +53,7 @@ size-requires-3 c κs =
     let a = c6 .args in
     let w = acts (a .t .now) (λ i. omega (arith, c5 .shared-slice-known .given i)) (a .len) 4 (a .p) (c4 .act-row .ensures)
     (c3 .if1 .left) in
-    let h = head (a .t .now) (w .table) (a .p) (w .below) (c .before .size2 .ensures .0) (c .start .ensures .0) in
+    let h = head (a .t .now) (w .table) (a .p) (w .below) (c .before .get-usize2 .ensures .0) (c .start .ensures .0) in
     omega (arith, h .inside)
 
 add-if2 : tie.Need-add-if2
@@ -70,15 +70,15 @@ returns-2 c =
     let a = c8 .args in
     let w = acts (a .t .now) (λ i. omega (arith, c7 .shared-slice-known .given i)) (a .len) 4 (a .p) (c6 .act-row .ensures)
     (c5 .if1 .left) in
-    let h = head (a .t .now) (w .table) (a .p) (w .below) (c3 .size2 .ensures .0) (c .before .before .start .ensures .0) in
-    checkpoint-full (a .t .now) (a .p) (a .len) (c6 .act-row .ensures) (c5 .if1 .left) (c4 .size .ensures .0)
-    (c3 .size2 .ensures .0) (c .before .size3 .ensures .0 ∙ h .count) (c .if2 .taken)
+    let h = head (a .t .now) (w .table) (a .p) (w .below) (c3 .get-usize2 .ensures .0) (c .before .before .start .ensures .0) in
+    checkpoint-full (a .t .now) (a .p) (a .len) (c6 .act-row .ensures) (c5 .if1 .left) (c4 .get-usize .ensures .0)
+    (c3 .get-usize2 .ensures .0) (c .before .get-usize3 .ensures .0 ∙ h .count) (c .if2 .taken)
 
 add-size : tie.Need-add-size
 add-size c = search needs
 
-size-requires-4 : tie.Need-size-requires-4
-size-requires-4 c κs =
+get-usize-requires-4 : tie.Need-get-usize-requires-4
+get-usize-requires-4 c κs =
     let c3 = c .before .before .before in
     let c5 = c3 .before .before in
     let c6 = c5 .before in
@@ -87,7 +87,7 @@ size-requires-4 c κs =
     let a = c8 .args in
     let w = acts (a .t .now) (λ i. omega (arith, c7 .shared-slice-known .given i)) (a .len) 4 (a .p) (c6 .act-row .ensures)
     (c5 .if1 .left) in
-    let h = head (a .t .now) (w .table) (a .p) (w .below) (c3 .size2 .ensures .0) (c .before .before .start .ensures .0) in
+    let h = head (a .t .now) (w .table) (a .p) (w .below) (c3 .get-usize2 .ensures .0) (c .before .before .start .ensures .0) in
     omega (arith, h .inside)
 
 mul-if3 : tie.Need-mul-if3
@@ -103,7 +103,7 @@ mul-if3 c =
     (c6 .if1 .left) in
     omega (
       arith,
-      product (c5 .size .result) (c4 .size2 .result) (omega (arith, w .table .range .processes))
+      product (c5 .get-usize .result) (c4 .get-usize2 .result) (omega (arith, w .table .range .processes))
           (omega (arith, w .table .range .records)),
     )
 
@@ -120,10 +120,10 @@ returns-3 c =
     let a = c10 .args in
     let w = acts (a .t .now) (λ i. omega (arith, c9 .shared-slice-known .given i)) (a .len) 4 (a .p) (c8 .act-row .ensures)
     (c7 .if1 .left) in
-    let h = head (a .t .now) (w .table) (a .p) (w .below) (c5 .size2 .ensures .0) (c4 .start .ensures .0) in
-    checkpoint-number (a .t .now) (a .p) (a .len) (c8 .act-row .ensures) (c7 .if1 .left) (c6 .size .ensures .0)
-    (c5 .size2 .ensures .0) (c3 .size3 .ensures .0 ∙ h .count) (c .before .before .if2 .left)
-    (c .before .size4 .ensures .0 ∙ h .current) (c .if3 .taken)
+    let h = head (a .t .now) (w .table) (a .p) (w .below) (c5 .get-usize2 .ensures .0) (c4 .start .ensures .0) in
+    checkpoint-number (a .t .now) (a .p) (a .len) (c8 .act-row .ensures) (c7 .if1 .left) (c6 .get-usize .ensures .0)
+    (c5 .get-usize2 .ensures .0) (c3 .get-usize3 .ensures .0 ∙ h .count) (c .before .before .if2 .left)
+    (c .before .get-usize4 .ensures .0 ∙ h .current) (c .if3 .taken)
 
 returns-4 : tie.Need-returns-4
 returns-4 c =
@@ -138,10 +138,10 @@ returns-4 c =
     let a = c10 .args in
     let w = acts (a .t .now) (λ i. omega (arith, c9 .shared-slice-known .given i)) (a .len) 4 (a .p) (c8 .act-row .ensures)
     (c7 .if1 .left) in
-    let h = head (a .t .now) (w .table) (a .p) (w .below) (c5 .size2 .ensures .0) (c4 .start .ensures .0) in
-    checkpoint-none (a .t .now) (a .p) (a .len) (c8 .act-row .ensures) (c7 .if1 .left) (c6 .size .ensures .0)
-    (c5 .size2 .ensures .0) (c3 .size3 .ensures .0 ∙ h .count) (c .before .before .if2 .left)
-    (c .before .size4 .ensures .0 ∙ h .current) (c .if3 .left)
+    let h = head (a .t .now) (w .table) (a .p) (w .below) (c5 .get-usize2 .ensures .0) (c4 .start .ensures .0) in
+    checkpoint-none (a .t .now) (a .p) (a .len) (c8 .act-row .ensures) (c7 .if1 .left) (c6 .get-usize .ensures .0)
+    (c5 .get-usize2 .ensures .0) (c3 .get-usize3 .ensures .0 ∙ h .count) (c .before .before .if2 .left)
+    (c .before .get-usize4 .ensures .0 ∙ h .current) (c .if3 .left)
 
 pub checkpoint-row-spec : {M : Type 1} → statement M
 checkpoint-row-spec =
@@ -149,14 +149,14 @@ checkpoint-row-spec =
     (tie.spec
     act-row-requires
     returns
-    size-requires
-    size-requires-2
+    get-usize-requires
+    get-usize-requires-2
     start-requires
-    size-requires-3
+    get-usize-requires-3
     add-if2
     returns-2
     add-size
-    size-requires-4
+    get-usize-requires-4
     mul-if3
     returns-3
     returns-4)

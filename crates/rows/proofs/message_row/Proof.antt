@@ -4,14 +4,14 @@ use Rattle.rows.proofs.Rows.{message-missing, message-again, message-fu
 use Rattle.rows.proofs.message_row.Statement.{statement}
 use Rattle.rows.proofs.message_row.Tie as tie
 
-size-requires : tie.Need-size-requires
-size-requires c κs = search needs
+get-usize-requires : tie.Need-get-usize-requires
+get-usize-requires c κs = search needs
 
 add-find-send : tie.Need-add-find-send
 add-find-send c = search needs
 
-size-requires-2 : tie.Need-size-requires-2
-size-requires-2 c κs = search needs
+get-usize-requires-2 : tie.Need-get-usize-requires-2
+get-usize-requires-2 c κs = search needs
 
 find-send-requires : tie.Need-find-send-requires
 find-send-requires c κs = search needs
@@ -26,8 +26,8 @@ returns c =
     let c5 = c4 .before in
     let c7 = c5 .before .before in
     let a = c7 .args in
-    let i = c5 .size .ensures .0 in
-    let j = c4 .size2 .ensures .0 in
+    let i = c5 .get-usize .ensures .0 in
+    let j = c4 .get-usize2 .ensures .0 in
     let f = c3 .find-send .ensures in (
       message-missing (a .t .now) (a .e) (a .at) (a .from) (a .p) (a .q) (a .k) i j (f .0) (f .1) (f .2) (c .if1 .taken),
       λ z.
@@ -47,8 +47,8 @@ returns-2 c =
     let c7 = c6 .before in
     let c9 = c7 .before .before in
     let a = c9 .args in
-    let i = c7 .size .ensures .0 in
-    let j = c6 .size2 .ensures .0 in
+    let i = c7 .get-usize .ensures .0 in
+    let j = c6 .get-usize2 .ensures .0 in
     let f = c5 .find-send .ensures in (
       message-again (a .t .now) (a .e) (a .at) (a .from) (a .p) (a .q) (a .k) i j (f .0) (f .1) (f .2)
           (c .before .before .if1 .left) (c .before .has-receipt .ensures) (c .if2 .taken),
@@ -77,8 +77,8 @@ returns-3 c =
     let c10 = c9 .before in
     let c12 = c10 .before .before in
     let a = c12 .args in
-    let i = c10 .size .ensures .0 in
-    let j = c9 .size2 .ensures .0 in
+    let i = c10 .get-usize .ensures .0 in
+    let j = c9 .get-usize2 .ensures .0 in
     let f = c8 .find-send .ensures in (
       message-full (a .t .now) (a .e) (a .at) (a .from) (a .p) (a .q) (a .k) i j (f .0) (f .1) (f .2) (c5 .if1 .left)
           (c4 .has-receipt .ensures) (c3 .if2 .left) (c .before .before .get .ensures) (c .before .needed .ensures .0) (c .if3 .taken),
@@ -95,8 +95,8 @@ returns-4 c =
     let c10 = c9 .before in
     let c12 = c10 .before .before in
     let a = c12 .args in
-    let i = c10 .size .ensures .0 in
-    let j = c9 .size2 .ensures .0 in
+    let i = c10 .get-usize .ensures .0 in
+    let j = c9 .get-usize2 .ensures .0 in
     let f = c8 .find-send .ensures in (
       message-none (a .t .now) (a .e) (a .at) (a .from) (a .p) (a .q) (a .k) i j (f .0) (f .1) (f .2) (c5 .if1 .left)
           (c4 .has-receipt .ensures) (c3 .if2 .left) (c .before .before .get .ensures) (c .before .needed .ensures .0) (c .if3 .left),
@@ -107,9 +107,9 @@ pub message-row-spec : {M : Type 1} → statement M
 message-row-spec =
     tie.close
     (tie.spec
-    size-requires
+    get-usize-requires
     add-find-send
-    size-requires-2
+    get-usize-requires-2
     find-send-requires
     cast-if1
     returns

@@ -13,8 +13,8 @@ returns c =
     let a = c3 .args in
     pair-act (a .t .now) (a .len) (a .p) (a .q) (c .before .act-row .ensures) (c .if1 .taken)
 
-size-requires : tie.Need-size-requires
-size-requires c κs =
+get-usize-requires : tie.Need-get-usize-requires
+get-usize-requires c κs =
     let c3 = c .before .before .before in
     let a = c3 .args in
     let w = acts (a .t .now) (λ i. omega (arith, c .before .before .shared-slice-known .given i)) (a .len) 8 (a .p)
@@ -27,7 +27,7 @@ returns-2 c =
     let c5 = c3 .before .before in
     let a = c5 .args in
     pair-other (a .t .now) (a .len) (a .p) (a .q) (c3 .act-row .ensures) (c .before .before .if1 .left)
-    (c .before .size .ensures .0) (c .if2 .taken)
+    (c .before .get-usize .ensures .0) (c .if2 .taken)
 
 returns-3 : tie.Need-returns-3
 returns-3 c =
@@ -35,7 +35,7 @@ returns-3 c =
     let c5 = c3 .before .before in
     let a = c5 .args in
     pair-none (a .t .now) (a .len) (a .p) (a .q) (c3 .act-row .ensures) (c .before .before .if1 .left)
-    (c .before .size .ensures .0) (c .if2 .left)
+    (c .before .get-usize .ensures .0) (c .if2 .left)
 
 pub pair-row-spec : {M : Type 1} → statement M
-pair-row-spec = tie.close (tie.spec act-row-requires returns size-requires returns-2 returns-3)
+pair-row-spec = tie.close (tie.spec act-row-requires returns get-usize-requires returns-2 returns-3)

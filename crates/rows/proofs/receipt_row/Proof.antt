@@ -18,8 +18,8 @@ returns c =
           (c .if1 .taken z),
     )
 
-size-requires : tie.Need-size-requires
-size-requires c κs =
+get-usize-requires : tie.Need-get-usize-requires
+get-usize-requires c κs =
     let c3 = c .before .before .before in
     let a = c3 .args in
     let w = pairs (a .t .now) (λ i. omega (arith, c .before .before .shared-slice-known .given i)) (a .len) (a .p) (a .q)
@@ -54,9 +54,9 @@ message-row-requires c κs =
     let a = c6 .args in
     let w = pairs (a .t .now) (λ i. omega (arith, c5 .shared-slice-known .given i)) (a .len) (a .p) (a .q) (c4 .pair-row .ensures)
     (c3 .if1 .left) in
-    let h = head (a .t .now) (w .acting .table) (a .p) (w .acting .below) (c .before .before .size .ensures .0)
+    let h = head (a .t .now) (w .acting .table) (a .p) (w .acting .below) (c .before .before .get-usize .ensures .0)
     (c .before .start .ensures .0) in
-    let g = head (a .t .now) (w .acting .table) (a .q) (w .below) (c .before .before .size .ensures .0) (c .start2 .ensures .0) in
+    let g = head (a .t .now) (w .acting .table) (a .q) (w .below) (c .before .before .get-usize .ensures .0) (c .start2 .ensures .0) in
     (h .most, h .near, g .near, h .short, g .short, h .inside, g .inside)
 
 returns-2 : tie.Need-returns-2
@@ -69,10 +69,10 @@ returns-2 c =
     let a = c7 .args in
     let w = pairs (a .t .now) (λ i. omega (arith, c6 .shared-slice-known .given i)) (a .len) (a .p) (a .q) (c5 .pair-row .ensures)
     (c4 .if1 .left) in
-    let h = head (a .t .now) (w .acting .table) (a .p) (w .acting .below) (c3 .size .ensures .0)
+    let h = head (a .t .now) (w .acting .table) (a .p) (w .acting .below) (c3 .get-usize .ensures .0)
     (c .before .before .start .ensures .0) in
-    let g = head (a .t .now) (w .acting .table) (a .q) (w .below) (c3 .size .ensures .0) (c .before .start2 .ensures .0) in (
-      receipt-going (a .t .now) (a .p) (a .q) (a .k) (a .len) (c5 .pair-row .ensures) (c4 .if1 .left) (c3 .size .ensures .0)
+    let g = head (a .t .now) (w .acting .table) (a .q) (w .below) (c3 .get-usize .ensures .0) (c .before .start2 .ensures .0) in (
+      receipt-going (a .t .now) (a .p) (a .q) (a .k) (a .len) (c5 .pair-row .ensures) (c4 .if1 .left) (c3 .get-usize .ensures .0)
           (h .count) (h .current) (h .events) (g .events) (c .message-row .ensures .0),
       λ z. c .message-row .ensures .1 z ∙ rw
           (g .events),
@@ -84,7 +84,7 @@ receipt-row-spec =
     (tie.spec
     pair-row-requires
     returns
-    size-requires
+    get-usize-requires
     start-requires
     start-requires-2
     message-row-requires

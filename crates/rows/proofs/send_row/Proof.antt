@@ -15,8 +15,8 @@ returns c =
     let a = c3 .args in
     send-stopped (a .t .now) (a .p) (a .q) (a .len) (c .before .pair-row .ensures) (c .if1 .taken)
 
-size-requires : tie.Need-size-requires
-size-requires c κs =
+get-usize-requires : tie.Need-get-usize-requires
+get-usize-requires c κs =
     let c3 = c .before .before .before in
     let a = c3 .args in
     let w = pairs (a .t .now) (λ i. omega (arith, c .before .before .shared-slice-known .given i)) (a .len) (a .p) (a .q)
@@ -32,15 +32,15 @@ start-requires c κs =
     (c .before .before .pair-row .ensures) (c .before .if1 .left) in
     omega (arith, w .acting .below, w .acting .table .range .processes, w .acting .table .range .records)
 
-size-requires-2 : tie.Need-size-requires-2
-size-requires-2 c κs =
+get-usize-requires-2 : tie.Need-get-usize-requires-2
+get-usize-requires-2 c κs =
     let c3 = c .before .before .before in
     let c4 = c3 .before in
     let c5 = c4 .before in
     let a = c5 .args in
     let w = pairs (a .t .now) (λ i. omega (arith, c4 .shared-slice-known .given i)) (a .len) (a .p) (a .q) (c3 .pair-row .ensures)
     (c .before .before .if1 .left) in
-    let h = head (a .t .now) (w .acting .table) (a .p) (w .acting .below) (c .before .size .ensures .0) (c .start .ensures .0) in
+    let h = head (a .t .now) (w .acting .table) (a .p) (w .acting .below) (c .before .get-usize .ensures .0) (c .start .ensures .0) in
     omega (arith, h .inside)
 
 add-if2 : tie.Need-add-if2
@@ -56,10 +56,10 @@ returns-2 c =
     let a = c7 .args in
     let w = pairs (a .t .now) (λ i. omega (arith, c6 .shared-slice-known .given i)) (a .len) (a .p) (a .q) (c5 .pair-row .ensures)
     (c4 .if1 .left) in
-    let h = head (a .t .now) (w .acting .table) (a .p) (w .acting .below) (c3 .size .ensures .0)
+    let h = head (a .t .now) (w .acting .table) (a .p) (w .acting .below) (c3 .get-usize .ensures .0)
     (c .before .before .start .ensures .0) in
-    send-full (a .t .now) (a .p) (a .q) (a .len) (c5 .pair-row .ensures) (c4 .if1 .left) (c3 .size .ensures .0)
-    (c .before .size2 .ensures .0 ∙ h .count) (c .if2 .taken)
+    send-full (a .t .now) (a .p) (a .q) (a .len) (c5 .pair-row .ensures) (c4 .if1 .left) (c3 .get-usize .ensures .0)
+    (c .before .get-usize2 .ensures .0 ∙ h .count) (c .if2 .taken)
 
 returns-3 : tie.Need-returns-3
 returns-3 c =
@@ -71,10 +71,10 @@ returns-3 c =
     let a = c7 .args in
     let w = pairs (a .t .now) (λ i. omega (arith, c6 .shared-slice-known .given i)) (a .len) (a .p) (a .q) (c5 .pair-row .ensures)
     (c4 .if1 .left) in
-    let h = head (a .t .now) (w .acting .table) (a .p) (w .acting .below) (c3 .size .ensures .0)
+    let h = head (a .t .now) (w .acting .table) (a .p) (w .acting .below) (c3 .get-usize .ensures .0)
     (c .before .before .start .ensures .0) in
-    send-none (a .t .now) (a .p) (a .q) (a .len) (c5 .pair-row .ensures) (c4 .if1 .left) (c3 .size .ensures .0)
-    (c .before .size2 .ensures .0 ∙ h .count) (c .if2 .left)
+    send-none (a .t .now) (a .p) (a .q) (a .len) (c5 .pair-row .ensures) (c4 .if1 .left) (c3 .get-usize .ensures .0)
+    (c .before .get-usize2 .ensures .0 ∙ h .count) (c .if2 .left)
 
 pub send-row-spec : {M : Type 1} → statement M
 send-row-spec =
@@ -82,9 +82,9 @@ send-row-spec =
     (tie.spec
     pair-row-requires
     returns
-    size-requires
+    get-usize-requires
     start-requires
-    size-requires-2
+    get-usize-requires-2
     add-if2
     returns-2
     returns-3)

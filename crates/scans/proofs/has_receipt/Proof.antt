@@ -25,28 +25,28 @@ mul-w c = search needs
 add-w : tie.Need-add-w Inv-loop μ-loop
 add-w c = search needs
 
-size-requires : tie.Need-size-requires Inv-loop μ-loop
-size-requires c κs = search needs
+get-usize-requires : tie.Need-get-usize-requires Inv-loop μ-loop
+get-usize-requires c κs = search needs
 
 add-size : tie.Need-add-size Inv-loop μ-loop
 add-size c = search needs
 
-size-requires-2 : tie.Need-size-requires-2 Inv-loop μ-loop
-size-requires-2 c κs = search needs
+get-usize-requires-2 : tie.Need-get-usize-requires-2 Inv-loop μ-loop
+get-usize-requires-2 c κs = search needs
 
 add-size-2 : tie.Need-add-size-2 Inv-loop μ-loop
 add-size-2 c = search needs
 
-size-requires-3 : tie.Need-size-requires-3 Inv-loop μ-loop
-size-requires-3 c κs = search needs
+get-usize-requires-3 : tie.Need-get-usize-requires-3 Inv-loop μ-loop
+get-usize-requires-3 c κs = search needs
 
 returns : tie.Need-returns Inv-loop μ-loop
 returns c =
     let r = c .before in
     let s = r .before .before .before .before in
     let a = s .before .before .args in
-    receipt-found (a .q) (a .k) (word (a .t .now)) (a .at) (s .loop .i) (r .before .before .size .ensures .0) (r .before .size2 .ensures .0)
-    (r .size3 .ensures .0) (s .loop .inv .0) (r .before .before .before .loop-test .taken) (c .if1 .taken)
+    receipt-found (a .q) (a .k) (word (a .t .now)) (a .at) (s .loop .i) (r .before .before .get-usize .ensures .0) (r .before .get-usize2 .ensures .0)
+    (r .get-usize3 .ensures .0) (s .loop .inv .0) (r .before .before .before .loop-test .taken) (c .if1 .taken)
 
 add-i : tie.Need-add-i Inv-loop μ-loop
 add-i c = search needs
@@ -59,8 +59,8 @@ loop-again c =
     let r = c .before in
     let s = r .before .before .before .before in
     let a = s .before .before .args in (
-      receipt-after (a .q) (a .k) (word (a .t .now)) (a .at) (s .loop .i) (r .before .before .size .ensures .0) (r .before .size2 .ensures .0)
-          (r .size3 .ensures .0) (s .loop .inv .0) ∙ c .if1 .left,
+      receipt-after (a .q) (a .k) (word (a .t .now)) (a .at) (s .loop .i) (r .before .before .get-usize .ensures .0) (r .before .get-usize2 .ensures .0)
+          (r .get-usize3 .ensures .0) (s .loop .inv .0) ∙ c .if1 .left,
       search needs,
     )
 
@@ -79,11 +79,11 @@ has-receipt-spec =
     loop-holds
     mul-w
     add-w
-    size-requires
+    get-usize-requires
     add-size
-    size-requires-2
+    get-usize-requires-2
     add-size-2
-    size-requires-3
+    get-usize-requires-3
     returns
     add-i
     loop-less

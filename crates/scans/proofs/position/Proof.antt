@@ -36,19 +36,19 @@ add-i c = search needs
 add-size : tie.Need-add-size Inv-loop μ-loop
 add-size c = search needs
 
-size-requires : tie.Need-size-requires Inv-loop μ-loop
-size-requires c κs = search needs
+get-usize-requires : tie.Need-get-usize-requires Inv-loop μ-loop
+get-usize-requires c κs = search needs
 
-size-requires-2 : tie.Need-size-requires-2 Inv-loop μ-loop
-size-requires-2 c κs = search needs
+get-usize-requires-2 : tie.Need-get-usize-requires-2 Inv-loop μ-loop
+get-usize-requires-2 c κs = search needs
 
 returns-2 : tie.Need-returns-2 Inv-loop μ-loop
 returns-2 c =
-    let kind = c .before .size2 .result in
+    let kind = c .before .get-usize2 .result in
     let over = c .before .before in
     let s = over .before .before .before in
     let a = s .before .before .before .args in (
-      position-found (a .m) (word (a .t .now)) (a .at) (s .loop .i) (s .loop .inv .0) (over .before .size .ensures .0) (c .before .size2 .ensures .0)
+      position-found (a .m) (word (a .t .now)) (a .at) (s .loop .i) (s .loop .inv .0) (over .before .get-usize .ensures .0) (c .before .get-usize2 .ensures .0)
           (over .before .before .loop-test .taken) (over .if2 .taken) (not-true (eqb kind 4 || eqb kind 3) (c .if3 .taken)),
       search needs,
     )
@@ -58,11 +58,11 @@ loop-less c = search needs
 
 loop-again : tie.Need-loop-again Inv-loop μ-loop
 loop-again c =
-    let kind = c .before .size2 .result in
+    let kind = c .before .get-usize2 .result in
     let over = c .before .before in
     let s = over .before .before .before in
     let a = s .before .before .before .args in (
-      position-message (a .m) (word (a .t .now)) (a .at) (s .loop .i) (s .loop .inv .0) (over .before .size .ensures .0) (c .before .size2 .ensures .0)
+      position-message (a .m) (word (a .t .now)) (a .at) (s .loop .i) (s .loop .inv .0) (over .before .get-usize .ensures .0) (c .before .get-usize2 .ensures .0)
           (not-false (eqb kind 4 || eqb kind 3) (c .if3 .left)),
       search needs,
     )
@@ -74,7 +74,7 @@ loop-again-2 : tie.Need-loop-again-2 Inv-loop μ-loop
 loop-again-2 c =
     let s = c .before .before .before in
     let a = s .before .before .before .args in
-    (position-low (a .m) (word (a .t .now)) (a .at) (s .loop .i) (s .loop .inv .0) (c .before .size .ensures .0) (c .if2 .left), search needs)
+    (position-low (a .m) (word (a .t .now)) (a .at) (s .loop .i) (s .loop .inv .0) (c .before .get-usize .ensures .0) (c .if2 .left), search needs)
 
 returns-3 : tie.Need-returns-3 Inv-loop μ-loop
 returns-3 c =
@@ -94,8 +94,8 @@ position-spec =
     add-w
     add-i
     add-size
-    size-requires
-    size-requires-2
+    get-usize-requires
+    get-usize-requires-2
     returns-2
     loop-less
     loop-again

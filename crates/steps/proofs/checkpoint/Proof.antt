@@ -18,8 +18,8 @@ returns c =
     let t = a .table .now in
     refused t (a .area .now) (a .p) checkpoint (c .before .checkpoint-row .ensures) (c .if1 .taken)
 
-size-requires : tie.Need-size-requires
-size-requires c κs =
+get-usize-requires : tie.Need-get-usize-requires
+get-usize-requires c κs =
     let c5 = c .before .before .before .before .before in
     let c6 = c5 .before in
     let a = c6 .args in
@@ -51,7 +51,7 @@ get-requires c κs =
     let a = c9 .args in
     let t = a .table .now in
     let R = ready t (a .area .now) (λ i. omega (arith, c8 .slice-known .given i)) (a .p) checkpoint (c5 .checkpoint-row .ensures)
-    (c4 .if1 .left) (c .before .before .size .ensures .0) (c .before .start .ensures .0) in
+    (c4 .if1 .left) (c .before .before .get-usize .ensures .0) (c .before .start .ensures .0) in
     omega (arith, R .own .inside)
 
 add-x : tie.Need-add-x
@@ -64,7 +64,7 @@ add-x c =
     let a = c10 .args in
     let t = a .table .now in
     let R = ready t (a .area .now) (λ i. omega (arith, c9 .slice-known .given i)) (a .p) checkpoint (c6 .checkpoint-row .ensures)
-    (c5 .if1 .left) (c3 .size .ensures .0) (c .before .before .start .ensures .0) in
+    (c5 .if1 .left) (c3 .get-usize .ensures .0) (c .before .before .start .ensures .0) in
     rw (c .get .ensures) (omega (arith, R .own .low))
 
 add-get-2 : tie.Need-add-get-2
@@ -81,7 +81,7 @@ get-requires-2 c κs =
     let a = c11 .args in
     let t = a .table .now in
     let R = ready t (a .area .now) (λ i. omega (arith, c10 .slice-known .given i)) (a .p) checkpoint (c7 .checkpoint-row .ensures)
-    (c6 .if1 .left) (c4 .size .ensures .0) (c3 .start .ensures .0) in
+    (c6 .if1 .left) (c4 .get-usize .ensures .0) (c3 .start .ensures .0) in
     omega (arith, R .own .inside)
 
 add-record-requires : tie.Need-add-record-requires
@@ -95,7 +95,7 @@ add-record-requires c κs =
     let a = c13 .args in
     let t = a .table .now in
     let R = ready t (a .area .now) (λ i. omega (arith, c12 .slice-known .given i)) (a .p) checkpoint (c9 .checkpoint-row .ensures)
-    (c8 .if1 .left) (c6 .size .ensures .0) (c5 .start .ensures .0) in
+    (c8 .if1 .left) (c6 .get-usize .ensures .0) (c5 .start .ensures .0) in
     (R .own .near, omega (arith, R .own .short, R .own .most), omega (arith, R .own .inside, R .free))
 
 put-requires : tie.Need-put-requires
@@ -109,7 +109,7 @@ put-requires c κs =
     let a = c17 .args in
     let t = a .table .now in
     let R = ready t (a .area .now) (λ i. omega (arith, c16 .slice-known .given i)) (a .p) checkpoint (c13 .checkpoint-row .ensures)
-    (c12 .if1 .left) (c10 .size .ensures .0) (c9 .start .ensures .0) in
+    (c12 .if1 .left) (c10 .get-usize .ensures .0) (c9 .start .ensures .0) in
     omega (arith, R .area)
 
 same-length-2 : tie.Need-same-length-2
@@ -133,7 +133,7 @@ returns-2 c =
     let a = c20 .args in
     let t = a .table .now in
     checkpoint-done t (a .area .now) (λ i. omega (arith, c19 .slice-known .given i))
-    (λ i. omega (arith, c18 .slice-known2 .given i)) (a .p) (c13 .size .ensures .0) (c12 .start .ensures .0) (c10 .get .ensures)
+    (λ i. omega (arith, c18 .slice-known2 .given i)) (a .p) (c13 .get-usize .ensures .0) (c12 .start .ensures .0) (c10 .get .ensures)
     (c8 .get2 .ensures) (c16 .checkpoint-row .ensures) (c15 .if1 .left) (c6 .add-record .ensures) (c .before .before .put .ensures)
 
 pub checkpoint-spec : {M : Type 1} → statement M
@@ -143,7 +143,7 @@ checkpoint-spec =
     checkpoint-row-requires
     same-length
     returns
-    size-requires
+    get-usize-requires
     start-requires
     add-get
     get-requires

@@ -18,8 +18,8 @@ returns c =
     let t = a .table .now in
     refused t (a .area .now) (a .p) (receipt (a .q) (a .k)) (c .before .receipt-row .ensures .0) (c .if1 .taken)
 
-size-requires : tie.Need-size-requires
-size-requires c κs =
+get-usize-requires : tie.Need-get-usize-requires
+get-usize-requires c κs =
     let c5 = c .before .before .before .before .before in
     let c6 = c5 .before in
     let a = c6 .args in
@@ -48,11 +48,11 @@ add-receipt-requires c κs =
     let a = c9 .args in
     let t = a .table .now in
     let R = ready t (a .area .now) (λ i. omega (arith, c8 .slice-known .given i)) (a .p) (receipt (a .q) (a .k))
-    (c5 .receipt-row .ensures .0) (c4 .if1 .left) (c .before .before .size .ensures .0) (c .before .start .ensures .0) in (
+    (c5 .receipt-row .ensures .0) (c4 .if1 .left) (c .before .before .get-usize .ensures .0) (c .before .start .ensures .0) in (
       R .own .near,
       omega (arith, R .own .short, R .own .most),
       receipt-room t (a .area .now) (a .p) (a .q) (a .k)
-          (c .before .before .size .result) (c .before .start .result) (c5 .receipt-row .result .carried) R
+          (c .before .before .get-usize .result) (c .before .start .result) (c5 .receipt-row .result .carried) R
           (c5 .receipt-row .ensures .1 (c4 .if1 .left)),
     )
 
@@ -67,7 +67,7 @@ answer-requires c κs =
     let a = c13 .args in
     let t = a .table .now in
     let R = ready t (a .area .now) (λ i. omega (arith, c12 .slice-known .given i)) (a .p) (receipt (a .q) (a .k))
-    (c9 .receipt-row .ensures .0) (c8 .if1 .left) (c6 .size .ensures .0) (c5 .start .ensures .0) in
+    (c9 .receipt-row .ensures .0) (c8 .if1 .left) (c6 .get-usize .ensures .0) (c5 .start .ensures .0) in
     R .area
 
 same-length-2 : tie.Need-same-length-2
@@ -89,7 +89,7 @@ returns-2 c =
     let a = c16 .args in
     let t = a .table .now in
     receipt-done t (a .area .now) (λ i. omega (arith, c15 .slice-known .given i)) (λ i. omega (arith, c14 .slice-known2 .given i))
-    (a .p) (a .q) (a .k) (c9 .size .ensures .0) (c8 .start .ensures .0) (c12 .receipt-row .ensures .0) (c11 .if1 .left)
+    (a .p) (a .q) (a .k) (c9 .get-usize .ensures .0) (c8 .start .ensures .0) (c12 .receipt-row .ensures .0) (c11 .if1 .left)
     (c12 .receipt-row .ensures .1 (c11 .if1 .left)) (c6 .add-receipt .ensures .0) (c6 .add-receipt .ensures .1)
     (c .before .before .answer .ensures)
 
@@ -100,7 +100,7 @@ receipt-spec =
     receipt-row-requires
     same-length
     returns
-    size-requires
+    get-usize-requires
     start-requires
     add-receipt-requires
     answer-requires

@@ -18,8 +18,8 @@ returns c =
     let t = a .table .now in
     refused t (a .area .now) (a .p) (send (a .q)) (c .before .send-row .ensures) (c .if1 .taken)
 
-size-requires : tie.Need-size-requires
-size-requires c κs =
+get-usize-requires : tie.Need-get-usize-requires
+get-usize-requires c κs =
     let c5 = c .before .before .before .before .before in
     let c6 = c5 .before in
     let a = c6 .args in
@@ -51,7 +51,7 @@ get-requires c κs =
     let a = c9 .args in
     let t = a .table .now in
     let R = ready t (a .area .now) (λ i. omega (arith, c8 .slice-known .given i)) (a .p) (send (a .q)) (c5 .send-row .ensures)
-    (c4 .if1 .left) (c .before .before .size .ensures .0) (c .before .start .ensures .0) in
+    (c4 .if1 .left) (c .before .before .get-usize .ensures .0) (c .before .start .ensures .0) in
     omega (arith, R .own .inside)
 
 add-get-2 : tie.Need-add-get-2
@@ -68,7 +68,7 @@ get-requires-2 c κs =
     let a = c11 .args in
     let t = a .table .now in
     let R = ready t (a .area .now) (λ i. omega (arith, c10 .slice-known .given i)) (a .p) (send (a .q)) (c7 .send-row .ensures)
-    (c6 .if1 .left) (c4 .size .ensures .0) (c3 .start .ensures .0) in
+    (c6 .if1 .left) (c4 .get-usize .ensures .0) (c3 .start .ensures .0) in
     omega (arith, R .own .inside)
 
 add-s : tie.Need-add-s
@@ -82,7 +82,7 @@ add-s c =
     let a = c12 .args in
     let t = a .table .now in
     let R = ready t (a .area .now) (λ i. omega (arith, c11 .slice-known .given i)) (a .p) (send (a .q)) (c8 .send-row .ensures)
-    (c7 .if1 .left) (c5 .size .ensures .0) (c4 .start .ensures .0) in
+    (c7 .if1 .left) (c5 .get-usize .ensures .0) (c4 .start .ensures .0) in
     rw (c .get2 .ensures) (omega (arith, R .own .few))
 
 add-record-requires : tie.Need-add-record-requires
@@ -96,7 +96,7 @@ add-record-requires c κs =
     let a = c13 .args in
     let t = a .table .now in
     let R = ready t (a .area .now) (λ i. omega (arith, c12 .slice-known .given i)) (a .p) (send (a .q)) (c9 .send-row .ensures)
-    (c8 .if1 .left) (c6 .size .ensures .0) (c5 .start .ensures .0) in
+    (c8 .if1 .left) (c6 .get-usize .ensures .0) (c5 .start .ensures .0) in
     (R .own .near, omega (arith, R .own .short, R .own .most), omega (arith, R .own .inside, R .free))
 
 answer-requires : tie.Need-answer-requires
@@ -110,7 +110,7 @@ answer-requires c κs =
     let a = c17 .args in
     let t = a .table .now in
     let R = ready t (a .area .now) (λ i. omega (arith, c16 .slice-known .given i)) (a .p) (send (a .q)) (c13 .send-row .ensures)
-    (c12 .if1 .left) (c10 .size .ensures .0) (c9 .start .ensures .0) in
+    (c12 .if1 .left) (c10 .get-usize .ensures .0) (c9 .start .ensures .0) in
     omega (arith, R .area)
 
 same-length-2 : tie.Need-same-length-2
@@ -134,7 +134,7 @@ returns-2 c =
     let a = c20 .args in
     let t = a .table .now in
     send-done t (a .area .now) (λ i. omega (arith, c19 .slice-known .given i)) (λ i. omega (arith, c18 .slice-known2 .given i))
-    (a .p) (c13 .size .ensures .0) (c12 .start .ensures .0) (c10 .get .ensures) (c8 .get2 .ensures) (a .q) (c16 .send-row .ensures)
+    (a .p) (c13 .get-usize .ensures .0) (c12 .start .ensures .0) (c10 .get .ensures) (c8 .get2 .ensures) (a .q) (c16 .send-row .ensures)
     (c15 .if1 .left) (c6 .add-record .ensures) (c .before .before .answer .ensures)
 
 pub send-spec : {M : Type 1} → statement M
@@ -144,7 +144,7 @@ send-spec =
     send-row-requires
     same-length
     returns
-    size-requires
+    get-usize-requires
     start-requires
     add-get
     get-requires

@@ -14,8 +14,8 @@ use native.Mathlib.Decide.{decLt}
 use borrow.Author.Tests.{eqb-true, eqb-false, leb-true, le-leb, lt-leb, lt-ltb, le-ltb, eq-eqb, ne-eqb}
 use Rattle.xdr.specs.Words.{word, putWords}
 use Rattle.rules.specs.Records.{number, sends}
-use Rattle.rules.specs.Table.{inRange, size, start, recordsAt, recordsOk, zerosAt, sectionOk, sectionsOk, wellLaid}
-use Rattle.layout.specs.Marks.{clear}
+use Rattle.rules.specs.Table.{heading, width, inRange, size, start, recordsAt, recordsOk, zerosAt, sectionOk, sectionsOk, wellLaid}
+use Rattle.layout.specs.Marks.{clear, top, upper, wrap, pairOf}
 use Rattle.layout.specs.Sections.{every, rearOk, frontOk}
 use Rattle.layout.proofs.Marks.{interchange, or-zero, xor-zero, marks-zero}
 use Rattle.rules.specs.Calls.{outcome, first, tableRows, freshOn}
@@ -74,54 +74,54 @@ module _ (w : ℕ → ℕ) where
       overlap false false r = refl
 
   -- the unused records, from the c-th of e on
-  pub unused-zero : (at c e : ℕ) {z : Bool} → z ≡ zerosAt w (at + 3 * c) (at + 3 * e - (at + 3 * c)) → z ≡ zerosAt w (at + 3 * c) (3 * (e - c))
-  unused-zero at c e h = let n : at + 3 * e - (at + 3 * c) ≡ 3 * (e - c) = omega arith in h ∙ ap (zerosAt w (at + 3 * c)) n
+  pub unused-zero : (at c e : ℕ) {z : Bool} → z ≡ zerosAt w (at + width * c) (at + width * e - (at + width * c)) → z ≡ zerosAt w (at + width * c) (width * (e - c))
+  unused-zero at c e h = let n : at + width * e - (at + width * c) ≡ width * (e - c) = omega arith in h ∙ ap (zerosAt w (at + width * c)) n
 
-  pub unused-none : (at c e : ℕ) → c ≡ e → true ≡ zerosAt w at (3 * (e - c))
+  pub unused-none : (at c e : ℕ) → c ≡ e → true ≡ zerosAt w at (width * (e - c))
   unused-none at c e h = let n : e - c ≡ 0 = omega arith in rw n
 
 -- ---- the two parts of a section, from what was read of it
 
-halves-same : (x y u v : ℕ) → y < 4294967296 → v < 4294967296 → eqb (x * 4294967296 + y) (u * 4294967296 + v) ≡ (eqb x u && eqb y v)
+halves-same : (x y u v : ℕ) → y < upper → v < upper → eqb (x * upper + y) (u * upper + v) ≡ (eqb x u && eqb y v)
 halves-same x y u v yl vl = go (test (eqb x u)) (test (eqb y v))
   where
-    go : Test (eqb x u) → Test (eqb y v) → eqb (x * 4294967296 + y) (u * 4294967296 + v) ≡ (eqb x u && eqb y v)
+    go : Test (eqb x u) → Test (eqb y v) → eqb (x * upper + y) (u * upper + v) ≡ (eqb x u && eqb y v)
     go (passes a) (passes b) =
         let p = eqb-true x u a in
         let q = eqb-true y v b in
-        rw (a, b, eq-eqb (x * 4294967296 + y) (u * 4294967296 + v) (omega arith))
-    go (passes a) (fails b) = let q = eqb-false y v b in rw (a, b, ne-eqb (x * 4294967296 + y) (u * 4294967296 + v) (omega arith))
-    go (fails a) b = let q = eqb-false x u a in rw (a, ne-eqb (x * 4294967296 + y) (u * 4294967296 + v) (omega arith))
+        rw (a, b, eq-eqb (x * upper + y) (u * upper + v) (omega arith))
+    go (passes a) (fails b) = let q = eqb-false y v b in rw (a, b, ne-eqb (x * upper + y) (u * upper + v) (omega arith))
+    go (fails a) b = let q = eqb-false x u a in rw (a, ne-eqb (x * upper + y) (u * upper + v) (omega arith))
 
 module _ (e : ℕ) (w : ℕ → ℕ) {at c : ℕ} (h : c ≡ w at) where
   pub rear-over : e < c → false ≡ rearOk e w at
   rear-over l = rw (← h, lt-leb c e l)
 
-  pub rear-within : c ≤ e → {z : Bool} → z ≡ zerosAt w (at + 3 + 3 * c) (3 * (e - c)) → z ≡ rearOk e w at
+  pub rear-within : c ≤ e → {z : Bool} → z ≡ zerosAt w (at + heading + width * c) (width * (e - c)) → z ≡ rearOk e w at
   rear-within l hz = rw (hz, ← h, le-leb c e l)
 
   -- marks, and the header's number and count of sends beside those that were found
-  pub front-fold : (n p m : ℕ) {last k pair : ℕ} → m < 18446744073709551616 → clear m ≡ recordsOk n e w p (at + 3) c
-      → (recordsOk n e w p (at + 3) c ≡ true → (last ≡ number (recordsAt w (at + 3) c) * 4294967296) × (k ≡ sends (recordsAt w (at + 3) c)))
-      → k < 4294967296 → w (at + 2) < 4294967296 → pair ≡ w (at + 1) * 4294967296 + w (at + 2)
-      → eqb (bitOr (bitAnd m 9223372039002259456) (bitXor pair (bitOr last k))) 0 ≡ frontOk n e w p at
+  pub front-fold : (n p m : ℕ) {last k pair : ℕ} → m < wrap → clear m ≡ recordsOk n e w p (at + heading) c
+      → (recordsOk n e w p (at + heading) c ≡ true → (last ≡ number (recordsAt w (at + heading) c) * upper) × (k ≡ sends (recordsAt w (at + heading) c)))
+      → k < upper → w (at + 2) < upper → pair ≡ w (at + 1) * upper + w (at + 2)
+      → eqb (bitOr (bitAnd m (pairOf top top)) (bitXor pair (bitOr last k))) 0 ≡ frontOk n e w p at
   front-fold n p m {last} {k} {pair} ml f g kl yl hp =
-      or-zero (bitAnd m 9223372039002259456) (bitXor pair (bitOr last k))
-      ∙ rw (marks-zero m ml, xor-zero pair (bitOr last k), f, ← h) (go (test (recordsOk n e w p (at + 3) c)))
+      or-zero (bitAnd m (pairOf top top)) (bitXor pair (bitOr last k))
+      ∙ rw (marks-zero m ml, xor-zero pair (bitOr last k), f, ← h) (go (test (recordsOk n e w p (at + heading) c)))
     where
-      go : Test (recordsOk n e w p (at + 3) c)
-          → (recordsOk n e w p (at + 3) c && eqb pair (bitOr last k))
-          ≡ (recordsOk n e w p (at + 3) c && eqb (w (at + 1)) (number (recordsAt w (at + 3) c)) && eqb (w (at + 2)) (sends (recordsAt w (at + 3) c)))
+      go : Test (recordsOk n e w p (at + heading) c)
+          → (recordsOk n e w p (at + heading) c && eqb pair (bitOr last k))
+          ≡ (recordsOk n e w p (at + heading) c && eqb (w (at + 1)) (number (recordsAt w (at + heading) c)) && eqb (w (at + 2)) (sends (recordsAt w (at + heading) c)))
       go (fails o) = rw o
       go (passes o) =
-          let small : sends (recordsAt w (at + 3) c) < 4294967296 = rw (g o .1) at kl in
-          rw (o, hp, g o .0, g o .1, or-shifted (number (recordsAt w (at + 3) c)) 32 (sends (recordsAt w (at + 3) c)) small)
-          (halves-same (w (at + 1)) (w (at + 2)) (number (recordsAt w (at + 3) c)) (sends (recordsAt w (at + 3) c)) yl small)
+          let small : sends (recordsAt w (at + heading) c) < upper = rw (g o .1) at kl in
+          rw (o, hp, g o .0, g o .1, or-shifted (number (recordsAt w (at + heading) c)) 32 (sends (recordsAt w (at + heading) c)) small)
+          (halves-same (w (at + 1)) (w (at + 2)) (number (recordsAt w (at + heading) c)) (sends (recordsAt w (at + heading) c)) yl small)
 
 -- ---- all sections
 
 pub start-most : (e p n : ℕ) → p < n → start e (p + 1) ≤ start e n
-start-most e p n l = let m = mul-le-mul-right {m = p + 1} {n = n} (3 * (e + 1)) (omega arith) in omega arith
+start-most e p n l = let m = mul-le-mul-right {m = p + 1} {n = n} (heading + width * e) (omega arith) in omega arith
 
 module _ (f : ℕ → Bool) where
   pub every-at : (m p : ℕ) → p < m → every f m ≡ true → f p ≡ true
@@ -148,7 +148,7 @@ pub rears-count : (e : ℕ) (w : ℕ → ℕ) (n p : ℕ) → p < n → every (�
 rears-count e w n p lt h =
     let at = start e p in
     let ok = every-at (λ q. rearOk e w (start e q)) n p lt h in
-    leb-true (w at) e (and-eq-true-iff (leb (w at) e) (zerosAt w (at + 3 + 3 * w at) (3 * (e - w at))) .0 ok .0)
+    leb-true (w at) e (and-eq-true-iff (leb (w at) e) (zerosAt w (at + heading + width * w at) (width * (e - w at))) .0 ok .0)
 
 sections-parts : (n e : ℕ) (w : ℕ → ℕ) (m : ℕ)
     → sectionsOk n e w m ≡ (every (λ p. rearOk e w (start e p)) m && every (λ p. frontOk n e w p (start e p)) m)
@@ -159,8 +159,8 @@ sections-parts n e w (suc m) =
     let fronts = every (λ p. frontOk n e w p (start e p)) m in
     ap (λ (b : Bool). b && sectionOk n e w m) (sections-parts n e w m)
     ∙ ap (λ (b : Bool). (rears && fronts) && b)
-    (parts (leb (w at) e) (recordsOk n e w m (at + 3) (w at)) (eqb (w (at + 1)) (number (recordsAt w (at + 3) (w at))))
-    (eqb (w (at + 2)) (sends (recordsAt w (at + 3) (w at)))) (zerosAt w (at + 3 + 3 * w at) (3 * (e - w at))))
+    (parts (leb (w at) e) (recordsOk n e w m (at + heading) (w at)) (eqb (w (at + 1)) (number (recordsAt w (at + heading) (w at))))
+    (eqb (w (at + 2)) (sends (recordsAt w (at + heading) (w at)))) (zerosAt w (at + heading + width * w at) (width * (e - w at))))
     ∙ interchange rears fronts (rearOk e w at) (frontOk n e w m at)
   where
     parts : (l r x y z : Bool) → (l && r && x && y && z) ≡ ((l && z) && (r && x && y))
@@ -209,5 +209,5 @@ module _ (t : List ℕ) (n e : ℕ) where
 
   pub fresh-done : inRange n e ≡ true → length t ≡ size n e → {u v : List ℕ} → u ≡ replicate (length t) 0 → v ≡ putWords u 0 (n ∷ e ∷ [])
       → outcome 0 v [] ≡ freshOn t n e
-  unfolding freshOn
+  unfolding freshOn putWords
   fresh-done r z c p = rw (r, eq-eqb (length t) (size n e) z, p, c, z, fresh-layout n e (in-range n e r))
