@@ -13,20 +13,20 @@ late counts (forced m) = false
 late counts (sent q) = false
 late counts (received q k) = ltb (getD counts (q % 16) 0) k
 
--- ---- where sends go: that of send k of process q stands at place q × E + k
+-- ---- notes of where sends go: that of send k of process q stands at index q × E + k
 
--- the place, 0 where a list of this length doesn't have it
-abbrev pub place : ℕ → ℕ → ℕ → ℕ → ℕ
-place E len q k = cond (ltb (q * E + k) len) (q * E + k) 0
+-- the index, 0 where a list of this length doesn't have it
+abbrev pub noteIndex : ℕ → ℕ → ℕ → ℕ → ℕ
+noteIndex E len q k = cond (ltb (q * E + k) len) (q * E + k) 0
 
--- a receipt at process p at whose place another process stands, or none
+-- a receipt at process p at whose index another process is noted, or none
 abbrev pub unsent : ℕ → ℕ → List ℕ → Event → Bool
 unsent E p to (basic m) = false
 unsent E p to (forced m) = false
 unsent E p to (sent q) = false
-unsent E p to (received q k) = not (eqb (getD to (place E (length to) q k) 0) p)
+unsent E p to (received q k) = not (eqb (getD to (noteIndex E (length to) q k) 0) p)
 
--- what stands at the place of the next send once a record is read: its destination, 16 if it is no send
+-- what stands at the index of the next send once a record is read: its destination, 16 if it is no send
 abbrev pub noteOf : Event → ℕ
 noteOf (basic m) = 16
 noteOf (forced m) = 16

@@ -14,7 +14,7 @@ fn position_of(t: &[u8], e: usize, p: usize, m: usize) -> u32
     ensures { λ r. ⌜ r ≡ numbered m (sectionAt (word (now (t .entry))) e p) ⌝ }
 {
     let at = layout::start(e, p);
-    scans::position(t, at + 3, xdr::get_usize(t, at), m) as u32
+    scans::position(t, at + layout::HEADING, xdr::get_usize(t, at), m) as u32
 }
 
 // Writes the positions of all n processes.

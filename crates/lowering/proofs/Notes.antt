@@ -13,7 +13,7 @@ use borrow.Author.Tests.{lt-ltb, leb-true, leb-false, le-leb, lt-leb, eq-eqb, ne
 use Rattle.xdr.specs.Words.{word}
 use Rattle.xdr.proofs.Words.{Bytes}
 use Rattle.rules.specs.Records.{Event, basic, forced, sent, received, History, State, history, sends, destination, hasSend}
-use Rattle.rules.specs.Table.{start, recordsAt, decoded}
+use Rattle.rules.specs.Table.{heading, start, recordsAt, decoded}
 use Rattle.rules.specs.FailureLine.{any, before}
 use Rattle.basics.proofs.Booleans.{Test, passes, fails, test}
 use Rattle.records.proofs.Histories.{Each, each-older}
@@ -143,22 +143,22 @@ unsent-lost s n E p to lp room N h legal = before-same (unsent E p to) (lost s p
 
 module _ (t : List ℕ) (b : Bytes t) {n E : ℕ} (L : Laid t n E) (p : ℕ) (lt : p < n) {at : ℕ} (i : at ≡ start E p) where
   pub note-turn : (to : List ℕ) → p * E + E < length to → Noted (decoded t) E to p → Blank to (p * E) → {c : ℕ} → c ≡ word t at
-      → {u : List ℕ} → u ≡ noted E p (recordsAt (word t) (at + 3) c) to
+      → {u : List ℕ} → u ≡ noted E p (recordsAt (word t) (at + heading) c) to
       → (length u ≡ length to) × Noted (decoded t) E u (p + 1) × Blank u ((p + 1) * E)
   note-turn to room N B z e =
       let H = section t b L p lt i in
       let d = H .count in
       let f = H .short in
       noted-next (decoded t) n E p to (L .3) room N B (lawful t b L p) (omega arith)
-      (e ∙ ap (λ (h : History). noted E p h to) (ap (recordsAt (word t) (at + 3)) z ∙ H .events))
+      (e ∙ ap (λ (h : History). noted E p h to) (ap (recordsAt (word t) (at + heading)) z ∙ H .events))
 
   -- what the scan finds is the first receipt that is an orphan in every cut
   pub lost-step : (P S : List ℕ) → Counted (decoded t) P S → (to : List ℕ) → n * E < length to → Noted (decoded t) E to n
-      → {c : ℕ} → c ≡ getD P p 0 → {r : ℕ} → r ≡ length (before (unsent E p to) (recordsAt (word t) (at + 3) c))
+      → {c : ℕ} → c ≡ getD P p 0 → {r : ℕ} → r ≡ length (before (unsent E p to) (recordsAt (word t) (at + heading) c))
       → Written t P S n p at (lost (decoded t) p) c r
   lost-step P S C to room N {c} is e =
       let f = L .3 in
       let here = view t b L P S C p lt i is .here in
       let legal = each-older (Law n E p) (upto-is-older (getD P p 0) (history (decoded t) p)) (lawful t b L p) in
-      let same = unsent-lost (decoded t) n E p to (omega arith) room N (recordsAt (word t) (at + 3) c) (subst (Legal n E p) here legal) in
+      let same = unsent-lost (decoded t) n E p to (omega arith) room N (recordsAt (word t) (at + heading) c) (subst (Legal n E p) here legal) in
       step t b L P S C p lt i (lost (decoded t) p) (lost-fair (decoded t) P p) is (e ∙ ap length same)

@@ -14,7 +14,7 @@ use borrow.Author.Tests.{ltb-true, ltb-false, lt-ltb, le-ltb, le-leb, lt-leb}
 use Rattle.xdr.specs.Words.{word}
 use Rattle.xdr.proofs.Words.{Bytes}
 use Rattle.rules.specs.Records.{Event, History, State, history, sends}
-use Rattle.rules.specs.Table.{start, recordsAt, decoded}
+use Rattle.rules.specs.Table.{heading, width, start, recordsAt, decoded}
 use Rattle.rules.specs.Lines.{upto, part, failed}
 use Rattle.rules.specs.FailureLine.{any, before, lastSaved, lowered, top}
 use Rattle.rules.specs.Calls.{tableRows}
@@ -71,12 +71,12 @@ module _ (t : List ℕ) (b : Bytes t) {n E : ℕ} (L : Laid t n E) where
 
   -- process p's part of a cut, up to position x, where its section starts at word `at`
   pub record View (P S : List ℕ) (p at x : ℕ) : Type 0 where
-    pub inside : 4 * (at + 3 + 3 * x) ≤ length t
+    pub inside : 4 * (at + heading + width * x) ≤ length t
     pub small : x ≤ 1024
-    pub all : history (decoded t) p ≡ recordsAt (word t) (at + 3) (word t at)
+    pub all : history (decoded t) p ≡ recordsAt (word t) (at + heading) (word t at)
     pub least : x ≤ word t at
-    pub here : part (decoded t) P p ≡ recordsAt (word t) (at + 3) x
-    pub sent : getD S p 0 ≡ sends (recordsAt (word t) (at + 3) x)
+    pub here : part (decoded t) P p ≡ recordsAt (word t) (at + heading) x
+    pub sent : getD S p 0 ≡ sends (recordsAt (word t) (at + heading) x)
 
   pub view : (P S : List ℕ) → Counted (decoded t) P S → (p : ℕ) → p < n → {at : ℕ} → at ≡ start E p
       → {x : ℕ} → x ≡ getD P p 0 → View P S p at x
@@ -88,8 +88,8 @@ module _ (t : List ℕ) (b : Bytes t) {n E : ℕ} (L : Laid t n E) where
       let short = H .short in
       let most = H .most in
       let room = H .inside in
-      let here : part (decoded t) P p ≡ recordsAt (word t) (at + 3) x =
-      rw (← y, ← H .events) (records-upto (word t) (at + 3) x (word t at) (omega arith))
+      let here : part (decoded t) P p ≡ recordsAt (word t) (at + heading) x =
+      rw (← y, ← H .events) (records-upto (word t) (at + heading) x (word t at) (omega arith))
       in
       record {
         inside = omega arith;
@@ -116,16 +116,16 @@ module _ (t : List ℕ) (b : Bytes t) {n E : ℕ} (L : Laid t n E) where
   -- ---- the latest permitted position
 
   module _ (p : ℕ) (lt : p < n) {at : ℕ} (i : at ≡ start E p) {c : ℕ} (z : c ≡ word t at) {down : Bool} where
-    pub top-down : down ≡ true → {x k : ℕ} → x ≡ lastSaved (recordsAt (word t) (at + 3) c) → k ≡ sends (recordsAt (word t) (at + 3) x)
+    pub top-down : down ≡ true → {x k : ℕ} → x ≡ lastSaved (recordsAt (word t) (at + heading) c) → k ≡ sends (recordsAt (word t) (at + heading) x)
         → (x ≡ top down (history (decoded t) p)) × (k ≡ sends (upto x (history (decoded t) p)))
     top-down d {x} a y =
         let H = section p lt i in
         let h = history (decoded t) p in
-        let e : recordsAt (word t) (at + 3) c ≡ h = ap (recordsAt (word t) (at + 3)) z ∙ H .events in
-        let l = last-le (recordsAt (word t) (at + 3) c) in
-        let m = records-length (word t) (at + 3) c in (
+        let e : recordsAt (word t) (at + heading) c ≡ h = ap (recordsAt (word t) (at + heading)) z ∙ H .events in
+        let l = last-le (recordsAt (word t) (at + heading) c) in
+        let m = records-length (word t) (at + heading) c in (
           rw d (a ∙ ap lastSaved e),
-          y ∙ ap sends (sym (ap (upto x) (sym e) ∙ records-upto (word t) (at + 3) x c (omega arith))),
+          y ∙ ap sends (sym (ap (upto x) (sym e) ∙ records-upto (word t) (at + heading) x c (omega arith))),
         )
 
     pub top-up : down ≡ false → {k : ℕ} → k ≡ word t (at + 2)
@@ -151,7 +151,7 @@ pub record Step (s : State) (P S P′ S′ : List ℕ) (n p : ℕ) (o : Event �
 -- what is written for p, from position c to before record r, makes a step, and is small, so that sixteen bits hold it
 abbrev pub Written : (t P S : List ℕ) (n p at : ℕ) (o : Event → Bool) (c r : ℕ) → Type 0
 Written t P S n p at o c r =
-    (y k : ℕ) → y ≡ cond (ltb r c) (lastSaved (recordsAt (word t) (at + 3) r)) c → k ≡ sends (recordsAt (word t) (at + 3) y)
+    (y k : ℕ) → y ≡ cond (ltb r c) (lastSaved (recordsAt (word t) (at + heading) r)) c → k ≡ sends (recordsAt (word t) (at + heading) y)
     → Step (decoded t) P S (set P p y) (set S p k) n p o (ltb r c) × (y ≤ 1024) × (k ≤ 1024)
 
 module _ (t : List ℕ) (b : Bytes t) {n E : ℕ} (L : Laid t n E) (P S : List ℕ) (C : Counted (decoded t) P S) (p : ℕ) (lt : p < n) {at : ℕ} (i : at ≡ start E p)
@@ -166,7 +166,7 @@ module _ (t : List ℕ) (b : Bytes t) {n E : ℕ} (L : Laid t n E) (P S : List �
   h = history held p
 
   abbrev records : ℕ → History
-  records = recordsAt (word t) (at + 3)
+  records = recordsAt (word t) (at + heading)
 
   seen : View t b L P S p at x
   seen = view t b L P S C p lt i refl
@@ -179,14 +179,14 @@ module _ (t : List ℕ) (b : Bytes t) {n E : ℕ} (L : Laid t n E) (P S : List �
       → (ltb r x ≡ true) × (lastSaved (records r) ≡ lowered o h x)
   found y {r} e =
       let a = before-less o (records x) y in
-      let l = records-length (word t) (at + 3) x in
-      let g : records r ≡ before o (records x) = ap records e ∙ sym (records-older (word t) (at + 3) x (before-older o (records x))) in
+      let l = records-length (word t) (at + heading) x in
+      let g : records r ≡ before o (records x) = ap records e ∙ sym (records-older (word t) (at + heading) x (before-older o (records x))) in
       let z : lowered o h x ≡ lastSaved (before o (records x)) = rw (seen .here, y) in
       (lt-ltb r x (omega arith), ap lastSaved g ∙ sym z)
 
   missed : any o (records x) ≡ false → {r : ℕ} → r ≡ length (before o (records x)) → ltb r x ≡ false
   missed y {r} e =
-      let l = records-length (word t) (at + 3) x in
+      let l = records-length (word t) (at + heading) x in
       let g = ap length (before-all o (records x) y) in
       le-ltb r x (omega arith)
 
@@ -195,7 +195,7 @@ module _ (t : List ℕ) (b : Bytes t) {n E : ℕ} (L : Laid t n E) (P S : List �
   back v e y =
       let le : v ≤ x = subst (λ (z : ℕ). z ≤ x) (sym e) (lowered-le o h x) in
       let d : records v ≡ upto v h =
-      sym (ap (upto v) (seen .all) ∙ records-upto (word t) (at + 3) v (word t at) (le-trans le (seen .least)))
+      sym (ap (upto v) (seen .all) ∙ records-upto (word t) (at + heading) v (word t at) (le-trans le (seen .least)))
       in
       record {
         counted = set-counted held P p (wide .0) v S C le (ap sends d) (wide .1) (wide .2);
@@ -356,7 +356,7 @@ module _ {s : State} {P₀ P S : List ℕ} {n p stayed : ℕ} (Q : Quiet s P₀ 
 
 pub late-step : (t : List ℕ) (b : Bytes t) {n E : ℕ} (L : Laid t n E) {P₀ P S : List ℕ} {p stayed : ℕ} → Quiet (decoded t) P₀ P S n p stayed
     → stayed < n → {at : ℕ} → at ≡ start E p → {c : ℕ} → c ≡ getD P p 0
-    → {r : ℕ} → r ≡ length (before (late S) (recordsAt (word t) (at + 3) c)) → Written t P S n p at (late S) c r
+    → {r : ℕ} → r ≡ length (before (late S) (recordsAt (word t) (at + heading) c)) → Written t P S n p at (late S) c r
 late-step t b L {P} {S} {p} Q lt i =
     let C = Q .counted in
     let e = processes t b L in

@@ -10,7 +10,7 @@ ghost use lib.Dec.{ltb};
 ghost use lib.ListN.{length};
 ghost use Rattle.xdr.specs.Words.{word};
 ghost use Rattle.rules.specs.Records.{history, sends as sendsOf};
-ghost use Rattle.rules.specs.Table.{recordsAt, decoded};
+ghost use Rattle.rules.specs.Table.{width, recordsAt, decoded};
 ghost use Rattle.rules.specs.Lines.{upto, failed};
 ghost use Rattle.rules.specs.FailureLine.{lastSaved, top as topOf};
 ghost use Rattle.lowering.specs.Lowering.{Laid, Counted, Over, Pruned, Settled, Noted, Blank};
@@ -40,7 +40,7 @@ fn top(t: &[u8], e: usize, p: usize, down: bool) -> cuts::Part
     let c = xdr::get_usize(t, at);
     let k = xdr::get_usize(t, at + 2);
     if down {
-        return cuts::back_to(t, at + 3, c, k, c);
+        return cuts::back_to(t, at + layout::HEADING, c, k, c);
     }
     cuts::Part {
         position: c,
@@ -72,7 +72,7 @@ pub fn tops(t: &[u8], n: usize, e: usize, mask: u32) -> Cut
 
 // From position c, before which there are k sends, back to the latest saved position that is at most r, if c is above r.
 fn back(t: &[u8], at: usize, c: usize, k: usize, r: usize) -> cuts::Part
-    requires { ⌜ (c ≤ 1024) × (4 * (at + 3 * c) ≤ length (now t)) × (k ≡ sendsOf (recordsAt (word (now t)) at c)) ⌝ }
+    requires { ⌜ (c ≤ 1024) × (4 * (at + width * c) ≤ length (now t)) × (k ≡ sendsOf (recordsAt (word (now t)) at c)) ⌝ }
     ensures { λ x. ⌜ (x .position ≡ cond (ltb r c) (lastSaved (recordsAt (word (now (t .entry))) at r)) c) × (x .sends ≡ sendsOf (recordsAt (word (now (t .entry))) at (x .position))) ⌝ }
 {
     if c <= r {
@@ -94,7 +94,7 @@ fn note_all(t: &[u8], n: usize, e: usize, to: &mut [u8])
     let mut p: usize = 0;
     while p < n {
         let at = layout::start(e, p);
-        cuts::note(t, at + 3, xdr::get_usize(t, at), e, p, to);
+        cuts::note(t, at + layout::HEADING, xdr::get_usize(t, at), e, p, to);
         p += 1;
     }
 }
@@ -108,7 +108,7 @@ fn prune(t: &[u8], n: usize, e: usize, cut: Cut, to: &[u8]) -> Cut
     let mut sends = cut.sends;
     let mut p: usize = 0;
     while p < n {
-        let at = layout::start(e, p) + 3;
+        let at = layout::start(e, p) + layout::HEADING;
         let c = cuts::wide(position[p]);
         let r = cuts::first_unsent(t, at, c, e, p as u8, to);
         let x = back(t, at, c, cuts::wide(sends[p]), r);
@@ -156,7 +156,7 @@ pub fn settled(t: &[u8], n: usize, e: usize, cut: Cut) -> Cut
     let mut stayed: usize = 0;
     let mut p: usize = 0;
     while stayed < n {
-        let at = layout::start(e, p) + 3;
+        let at = layout::start(e, p) + layout::HEADING;
         let c = cuts::wide(position[p]);
         let r = cuts::first_late(t, at, c, &sends);
         let x = back(t, at, c, cuts::wide(sends[p]), r);

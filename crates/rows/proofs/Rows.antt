@@ -10,7 +10,7 @@ use borrow.Author.Tests.{leb-false, le-leb, lt-leb, lt-ltb, le-ltb, eq-eqb, ne-e
 use Rattle.xdr.specs.Words.{word}
 use Rattle.xdr.proofs.Words.{Bytes}
 use Rattle.rules.specs.Records.{History, history, number, sends, carried, destination, hasReceipt}
-use Rattle.rules.specs.Table.{recordsAt, decoded}
+use Rattle.rules.specs.Table.{heading, recordsAt, decoded}
 use Rattle.rules.specs.Steps.{Call, checkpoint, send, receipt}
 use Rattle.rules.specs.Calls.{areaLength, Row, row, first, tableRows, laterRows}
 use Rattle.basics.proofs.Booleans.{or-false}
@@ -126,15 +126,15 @@ module _ (t : List ℕ) (p q k len : ℕ) {r : ℕ} (e : r ≡ first (pairRows t
 -- ---- a receipt's message: section p starts at word `at` and has c records, section q starts at word `from` and has d
 
 module _ (t : List ℕ) (e at from p q k : ℕ) {c d o m : ℕ} {found : Bool} (i : c ≡ word t at) (j : d ≡ word t from)
-    (f : found ≡ (ltb 0 k && leb k (sends (recordsAt (word t) (from + 3) d)))) (g : m ≡ carried (recordsAt (word t) (from + 3) d) k)
-    (h : o ≡ destination (recordsAt (word t) (from + 3) d) k) where
+    (f : found ≡ (ltb 0 k && leb k (sends (recordsAt (word t) (from + heading) d)))) (g : m ≡ carried (recordsAt (word t) (from + heading) d) k)
+    (h : o ≡ destination (recordsAt (word t) (from + heading) d) k) where
   abbrev rows : List Row
   rows = receiptRowsAt t e at from p q k
 
   pub message-missing : not (found && eqb o p) ≡ true → 7 ≡ first rows
   message-missing x = rw (← j, ← f, ← h, x)
 
-  module _ (there : not (found && eqb o p) ≡ false) {b : Bool} (a : b ≡ hasReceipt (recordsAt (word t) (at + 3) c) q k) where
+  module _ (there : not (found && eqb o p) ≡ false) {b : Bool} (a : b ≡ hasReceipt (recordsAt (word t) (at + heading) c) q k) where
     pub message-again : b ≡ true → 8 ≡ first rows
     message-again x = rw (← i, ← j, ← f, ← h, there, ← a, x)
 

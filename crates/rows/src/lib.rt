@@ -5,7 +5,7 @@ ghost use Prim.Native.Nat.{_+_, _*_, _≤_};
 ghost use lib.ListN.{length};
 ghost use Rattle.xdr.specs.Words.{word};
 ghost use Rattle.rules.specs.Records.{history, carried};
-ghost use Rattle.rules.specs.Table.{sectionOf, decoded};
+ghost use Rattle.rules.specs.Table.{heading, width, sectionOf, decoded};
 ghost use Rattle.rules.specs.Steps.{checkpoint, send, receipt};
 ghost use Rattle.rules.specs.Calls.{first};
 ghost use Rattle.rows.specs.Rows.{actRows, pairRows, receiptRowsAt, stepRow};
@@ -90,16 +90,16 @@ fn needed(forces: bool) -> usize
 
 // Message k of q, whose section starts at word `from`, to p, whose section starts at word `at`.
 fn message_row(t: &[u8], e: usize, at: usize, from: usize, p: usize, q: usize, k: usize) -> Message
-    requires { ⌜ (e ≤ 1024) × (at ≤ 65536) × (from ≤ 65536) × (word (now t) at ≤ e) × (word (now t) from ≤ e) × (4 * (at + 3 + 3 * e) ≤ length (now t)) × (4 * (from + 3 + 3 * e) ≤ length (now t)) ⌝ }
+    requires { ⌜ (e ≤ 1024) × (at ≤ 65536) × (from ≤ 65536) × (word (now t) at ≤ e) × (word (now t) from ≤ e) × (4 * (at + heading + width * e) ≤ length (now t)) × (4 * (from + heading + width * e) ≤ length (now t)) ⌝ }
     ensures { λ r. ⌜ (r .row ≡ first (receiptRowsAt (now (t .entry)) e at from p q k)) × (r .row ≡ 0 → r .carried ≡ carried (sectionOf (word (now (t .entry))) from) k) ⌝ }
 {
     let c = xdr::get_usize(t, at);
-    let m = scans::find_send(t, from + 3, xdr::get_usize(t, from), k);
+    let m = scans::find_send(t, from + layout::HEADING, xdr::get_usize(t, from), k);
     let carried = m.carried;
     if !(m.found & ((m.to as usize) == p)) {
         return Message { row: 7, carried };
     }
-    if scans::has_receipt(t, at + 3, c, q, k) {
+    if scans::has_receipt(t, at + layout::HEADING, c, q, k) {
         return Message { row: 8, carried };
     }
     if e < c + needed(xdr::get(t, at + 1) < carried) {

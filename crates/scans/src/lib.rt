@@ -1,13 +1,13 @@
 // Scans of a section's records, oldest first. Each ends where it has found what it looks for.
 ghost use mathlib.Core.Path.{_≡_};
-ghost use mathlib.Core.Bool.{cond, _&&_};
+ghost use mathlib.Core.Bool.{cond};
 ghost use Prim.Native.Nat.{_+_, _*_, _≤_};
-ghost use lib.Dec.{leb, ltb};
 ghost use lib.ListN.{length};
 ghost use Rattle.xdr.specs.Words.{word};
-ghost use Rattle.rules.specs.Records.{sends, carried, destination, hasReceipt};
-ghost use Rattle.rules.specs.Table.{recordsAt};
+ghost use Rattle.rules.specs.Records.{hasReceipt};
+ghost use Rattle.rules.specs.Table.{width, recordsAt};
 ghost use Rattle.rules.specs.Lines.{numbered};
+ghost use Rattle.scans.specs.Sends.{Answers};
 
 fn pick(t: bool, x: u32, y: u32) -> u32
     ensures { λ r. ⌜ r ≡ cond t x y ⌝ }
@@ -24,14 +24,14 @@ pub struct Sent {
 
 // Send k among the first c records from word `at` on.
 pub fn find_send(t: &[u8], at: usize, c: usize, k: usize) -> Sent
-    requires { ⌜ (c ≤ 1024) × (4 * (at + 3 * c) ≤ length (now t)) ⌝ }
-    ensures { λ r. ⌜ (r .found ≡ (ltb 0 k && leb k (sends (recordsAt (word (now (t .entry))) at c)))) × (r .carried ≡ carried (recordsAt (word (now (t .entry))) at c) k) × (r .to ≡ destination (recordsAt (word (now (t .entry))) at c) k) ⌝ }
+    requires { ⌜ (c ≤ 1024) × (4 * (at + width * c) ≤ length (now t)) ⌝ }
+    ensures { λ r. ⌜ Answers k (recordsAt (word (now (t .entry))) at c) (r .found) (r .carried) (r .to) ⌝ }
 {
     let mut number: u32 = 0;
     let mut sends: usize = 0;
     let mut i: usize = 0;
     while i < c {
-        let w = at + 3 * i;
+        let w = at + layout::WIDTH * i;
         let kind = xdr::get(t, w);
         let a = xdr::get(t, w + 1);
         sends = layout::pick(kind == 3, sends + 1, sends);
@@ -54,12 +54,12 @@ pub fn find_send(t: &[u8], at: usize, c: usize, k: usize) -> Sent
 
 // Whether the first c records from word `at` on have a receipt of (q, k).
 pub fn has_receipt(t: &[u8], at: usize, c: usize, q: usize, k: usize) -> bool
-    requires { ⌜ (c ≤ 1024) × (4 * (at + 3 * c) ≤ length (now t)) ⌝ }
+    requires { ⌜ (c ≤ 1024) × (4 * (at + width * c) ≤ length (now t)) ⌝ }
     ensures { λ r. ⌜ r ≡ hasReceipt (recordsAt (word (now (t .entry))) at c) q k ⌝ }
 {
     let mut i: usize = 0;
     while i < c {
-        let w = at + 3 * i;
+        let w = at + layout::WIDTH * i;
         if (xdr::get_usize(t, w) == 4)
             & (xdr::get_usize(t, w + 1) == q)
             & (xdr::get_usize(t, w + 2) == k)
@@ -74,7 +74,7 @@ pub fn has_receipt(t: &[u8], at: usize, c: usize, q: usize, k: usize) -> bool
 // The position of the first checkpoint with number m or more among the first c records from word `at` on, else c. The kind is looked
 // at last, since few records but such a checkpoint have a word a of m or more.
 pub fn position(t: &[u8], at: usize, c: usize, m: usize) -> usize
-    requires { ⌜ (c ≤ 1024) × (4 * (at + 3 * c) ≤ length (now t)) ⌝ }
+    requires { ⌜ (c ≤ 1024) × (4 * (at + width * c) ≤ length (now t)) ⌝ }
     ensures { λ r. ⌜ (r ≡ numbered m (recordsAt (word (now (t .entry))) at c)) × (r ≤ c) ⌝ }
 {
     if m == 0 {
@@ -82,7 +82,7 @@ pub fn position(t: &[u8], at: usize, c: usize, m: usize) -> usize
     }
     let mut i: usize = 0;
     while i < c {
-        let w = at + 3 * i;
+        let w = at + layout::WIDTH * i;
         i += 1;
         if m <= xdr::get_usize(t, w + 1) {
             let kind = xdr::get_usize(t, w);

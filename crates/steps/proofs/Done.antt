@@ -13,7 +13,7 @@ use Rattle.xdr.specs.Words.{word, bytes, putWord, putWords}
 use Rattle.xdr.proofs.Words.{Bytes, Small}
 use Rattle.xdr.proofs.Puts.{one-put, all-put}
 use Rattle.rules.specs.Records.{Event, basic, forced, sent, received, History, history, number, sends, carried}
-use Rattle.rules.specs.Table.{recordWords, layout, start, decoded}
+use Rattle.rules.specs.Table.{heading, width, recordWords, layout, start, decoded}
 use Rattle.rules.specs.Steps.{Call, checkpoint, send, receipt, carries, added, stepped}
 use Rattle.rules.specs.Calls.{outcome, areaLength, needed, answer, stepOn}
 use Rattle.records.proofs.Rows.{judged-stop, judged-done}
@@ -80,11 +80,11 @@ module _ (t a : List ℕ) (bt : Bytes t) (p : ℕ) (call : Call) {r : ℕ} (e : 
 
 -- the room of a receipt that carries m
 pub receipt-room : (t a : List ℕ) (p q k E at m : ℕ) → Ready t a p (receipt q k) E at → m ≡ carried (history (decoded t) q) k
-    → 4 * (at + 3 + 3 * (word t at + cond (ltb (word t (at + 1)) m) 2 1)) ≤ length t
+    → 4 * (at + heading + width * (word t at + cond (ltb (word t (at + 1)) m) 2 1)) ≤ length t
 receipt-room t a p q k E at m R i = rw (R .own .current, i)
     (go (cond (ltb (number (history (decoded t) p)) (carried (history (decoded t) q) k)) 2 1) (R .free) (R .own .inside))
   where
-    go : (x : ℕ) → word t at + x ≤ E → 4 * (at + 3 + 3 * E) ≤ length t → 4 * (at + 3 + 3 * (word t at + x)) ≤ length t
+    go : (x : ℕ) → word t at + x ≤ E → 4 * (at + heading + width * E) ≤ length t → 4 * (at + heading + width * (word t at + x)) ≤ length t
     go x f l = omega arith
 
 -- ---- the three calls

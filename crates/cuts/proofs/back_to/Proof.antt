@@ -6,7 +6,7 @@ use Rattle.rules.specs.FailureLine.{lastSaved}
 use Rattle.rules.specs.Records.{sends as sendsOf}
 use Rattle.rules.specs.Table.{recordsAt}
 use Rattle.xdr.specs.Words.{word}
-use Rattle.cuts.proofs.Laws.{back-more, back-next, back-done, sends-back}
+use Rattle.cuts.proofs.Scanned.{back-more, back-next, back-done, sends-back}
 use Rattle.cuts.proofs.back_to.Statement.{statement}
 use Rattle.cuts.proofs.back_to.Tie as tie
 
@@ -37,11 +37,11 @@ sub-i c =
     in
     omega arith
 
-mul-size : tie.Need-mul-size Inv-loop μ-loop
-mul-size c = search needs
+mul-get-usize : tie.Need-mul-get-usize Inv-loop μ-loop
+mul-get-usize c = search needs
 
-add-size : tie.Need-add-size Inv-loop μ-loop
-add-size c = search needs
+add-get-usize : tie.Need-add-get-usize Inv-loop μ-loop
+add-get-usize c = search needs
 
 get-usize-requires : tie.Need-get-usize-requires Inv-loop μ-loop
 get-usize-requires c κs =
@@ -103,8 +103,8 @@ back-to-spec =
     loop-holds
     saved-requires
     sub-i
-    mul-size
-    add-size
+    mul-get-usize
+    add-get-usize
     get-usize-requires
     pick-requires
     sub-sends

@@ -7,7 +7,7 @@ use Rattle.cuts.specs.Tests.{late}
 use Rattle.rules.specs.FailureLine.{any}
 use Rattle.rules.specs.Table.{recordsAt}
 use Rattle.xdr.specs.Words.{word}
-use Rattle.cuts.proofs.Laws.{none-next, first-none, first-found, late-event}
+use Rattle.cuts.proofs.Scanned.{none-next, first-none, first-found, late-event}
 use Rattle.cuts.proofs.first_late.Statement.{statement}
 use Rattle.cuts.proofs.first_late.Tie as tie
 
@@ -26,8 +26,8 @@ mul-w c = search needs
 add-w : tie.Need-add-w Inv-loop μ-loop
 add-w c = search needs
 
-add-size : tie.Need-add-size Inv-loop μ-loop
-add-size c = search needs
+add-get-usize : tie.Need-add-get-usize Inv-loop μ-loop
+add-get-usize c = search needs
 
 get-usize-requires : tie.Need-get-usize-requires Inv-loop μ-loop
 get-usize-requires c κs = search needs
@@ -44,8 +44,8 @@ shared-slice-read-wide c = search needs
 wide-requires : tie.Need-wide-requires Inv-loop μ-loop
 wide-requires c κs = search needs
 
-add-size-2 : tie.Need-add-size-2 Inv-loop μ-loop
-add-size-2 c = search needs
+add-get-usize-2 : tie.Need-add-get-usize-2 Inv-loop μ-loop
+add-get-usize-2 c = search needs
 
 get-usize-requires-3 : tie.Need-get-usize-requires-3 Inv-loop μ-loop
 get-usize-requires-3 c κs = search needs
@@ -99,13 +99,13 @@ first-late-spec =
     loop-holds
     mul-w
     add-w
-    add-size
+    add-get-usize
     get-usize-requires
     get-usize-requires-2
     mul-wide
     shared-slice-read-wide
     wide-requires
-    add-size-2
+    add-get-usize-2
     get-usize-requires-3
     returns
     add-i

@@ -8,7 +8,7 @@ use Rattle.cuts.specs.Tests.{unsent}
 use Rattle.rules.specs.FailureLine.{any}
 use Rattle.rules.specs.Table.{recordsAt}
 use Rattle.xdr.specs.Words.{word}
-use Rattle.cuts.proofs.Laws.{none-next, first-none, first-found, unsent-event, place-in}
+use Rattle.cuts.proofs.Scanned.{none-next, first-none, first-found, unsent-event, note-inside}
 use Rattle.cuts.proofs.first_unsent.Statement.{statement}
 use Rattle.cuts.proofs.first_unsent.Tie as tie
 
@@ -27,20 +27,20 @@ mul-w c = search needs
 add-w : tie.Need-add-w Inv-loop μ-loop
 add-w c = search needs
 
-add-size : tie.Need-add-size Inv-loop μ-loop
-add-size c = search needs
+add-get-usize : tie.Need-add-get-usize Inv-loop μ-loop
+add-get-usize c = search needs
 
 get-usize-requires : tie.Need-get-usize-requires Inv-loop μ-loop
 get-usize-requires c κs = search needs
 
-add-size-2 : tie.Need-add-size-2 Inv-loop μ-loop
-add-size-2 c = search needs
+add-get-usize-2 : tie.Need-add-get-usize-2 Inv-loop μ-loop
+add-get-usize-2 c = search needs
 
 get-usize-requires-2 : tie.Need-get-usize-requires-2 Inv-loop μ-loop
 get-usize-requires-2 c κs = search needs
 
-place-requires : tie.Need-place-requires Inv-loop μ-loop
-place-requires c κs = search needs
+note-index-requires : tie.Need-note-index-requires Inv-loop μ-loop
+note-index-requires c κs = search needs
 
 get-usize-requires-3 : tie.Need-get-usize-requires-3 Inv-loop μ-loop
 get-usize-requires-3 c κs = search needs
@@ -51,8 +51,8 @@ shared-slice-read-if1 c =
     let c4 = c3 .before in
     let c9 = c4 .before .before .before .before .before in
     let a = c9 .args in
-    let m = place-in
-    (a .e) (length (a .to .now)) (c4 .get-usize .result) (c3 .get-usize2 .result) (omega arith) in rw (c .before .before .place .ensures) m
+    let m = note-inside
+    (a .e) (length (a .to .now)) (c4 .get-usize .result) (c3 .get-usize2 .result) (omega arith) in rw (c .before .before .note-index .ensures) m
 
 returns : tie.Need-returns Inv-loop μ-loop
 returns c =
@@ -66,7 +66,7 @@ returns c =
     let w = word (a .t .now) in
     let s = c7 .loop in
     first-found w (a .at) (unsent (a .e) (a .p) (a .to .now)) (c6 .loop-test .taken) (s .inv .0)
-    (sym (unsent-event w (a .at) (a .e) (a .p) (a .to .now) (s .i) (c .before .before .get-usize3 .ensures .0) (c5 .get-usize .ensures .0) (c4 .get-usize2 .ensures .0) (c3 .place .ensures)) ∙ c .if1 .taken)
+    (sym (unsent-event w (a .at) (a .e) (a .p) (a .to .now) (s .i) (c .before .before .get-usize3 .ensures .0) (c5 .get-usize .ensures .0) (c4 .get-usize2 .ensures .0) (c3 .note-index .ensures)) ∙ c .if1 .taken)
 
 add-i : tie.Need-add-i Inv-loop μ-loop
 add-i c = search needs
@@ -85,7 +85,7 @@ loop-again c =
     let w = word (a .t .now) in
     let s = c7 .loop in (
       none-next w (a .at) (unsent (a .e) (a .p) (a .to .now)) (s .i) (s .inv .0)
-          (sym (unsent-event w (a .at) (a .e) (a .p) (a .to .now) (s .i) (c .before .before .get-usize3 .ensures .0) (c5 .get-usize .ensures .0) (c4 .get-usize2 .ensures .0) (c3 .place .ensures)) ∙ c .if1 .left),
+          (sym (unsent-event w (a .at) (a .e) (a .p) (a .to .now) (s .i) (c .before .before .get-usize3 .ensures .0) (c5 .get-usize .ensures .0) (c4 .get-usize2 .ensures .0) (c3 .note-index .ensures)) ∙ c .if1 .left),
       search needs,
     )
 
@@ -105,11 +105,11 @@ first-unsent-spec =
     loop-holds
     mul-w
     add-w
-    add-size
+    add-get-usize
     get-usize-requires
-    add-size-2
+    add-get-usize-2
     get-usize-requires-2
-    place-requires
+    note-index-requires
     get-usize-requires-3
     shared-slice-read-if1
     returns

@@ -9,7 +9,7 @@ use Rattle.rules.specs.Records.{sends}
 use Rattle.rules.specs.Table.{recordsAt}
 use Rattle.tables.proofs.Scans.{sends-next, sends-at-most}
 use Rattle.xdr.specs.Words.{word}
-use Rattle.cuts.proofs.Laws.{note-next, note-small}
+use Rattle.cuts.proofs.Scanned.{note-next, note-small}
 use Rattle.cuts.proofs.note.Statement.{statement}
 use Rattle.cuts.proofs.note.Tie as tie
 
@@ -33,8 +33,8 @@ add-w c = search needs
 get-usize-requires : tie.Need-get-usize-requires Inv-loop μ-loop
 get-usize-requires c κs = search needs
 
-add-size : tie.Need-add-size Inv-loop μ-loop
-add-size c = search needs
+add-get-usize : tie.Need-add-get-usize Inv-loop μ-loop
+add-get-usize c = search needs
 
 get-usize-requires-2 : tie.Need-get-usize-requires-2 Inv-loop μ-loop
 get-usize-requires-2 c κs = search needs
@@ -108,7 +108,7 @@ note-spec =
     mul-w
     add-w
     get-usize-requires
-    add-size
+    add-get-usize
     get-usize-requires-2
     pick-requires
     cast-to

@@ -3,7 +3,7 @@ use mathlib.Core.Path.{sym, ap, _∙_}
 use native.Mathlib.Omega.{arith}
 use borrow.Author.Needs.{needs}
 use Rattle.rules.specs.Records.{sends}
-use Rattle.rules.specs.Table.{recordsAt}
+use Rattle.rules.specs.Table.{heading, recordsAt}
 use Rattle.xdr.specs.Words.{word}
 use Rattle.lowering.proofs.Steps.{section, top-down, top-up}
 use Rattle.lowering.proofs.top.Statement.{statement}
@@ -19,8 +19,8 @@ get-usize-requires c κs =
     (c .before .before .pre .1) (c .start .ensures .0) in
     omega (arith, H .inside)
 
-add-size : tie.Need-add-size
-add-size c = search needs
+add-get-usize : tie.Need-add-get-usize
+add-get-usize c = search needs
 
 get-usize-requires-2 : tie.Need-get-usize-requires-2
 get-usize-requires-2 c κs =
@@ -46,7 +46,7 @@ back-to-requires c κs =
       omega (arith, H .short, H .most),
       omega (arith, H .short, H .inside),
       c .before .get-usize2 .ensures .0 ∙ H .sent ∙ ap sends (sym (H .events)) ∙ ap
-          (λ j. sends (recordsAt (word (a .t .now)) (c3 .start .result + 3) j)) (sym z),
+          (λ j. sends (recordsAt (word (a .t .now)) (c3 .start .result + heading) j)) (sym z),
     )
 
 returns : tie.Need-returns
@@ -74,7 +74,7 @@ top-spec =
     (tie.spec
     start-requires
     get-usize-requires
-    add-size
+    add-get-usize
     get-usize-requires-2
     add-back-to
     back-to-requires

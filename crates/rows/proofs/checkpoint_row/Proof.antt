@@ -74,8 +74,8 @@ returns-2 c =
     checkpoint-full (a .t .now) (a .p) (a .len) (c6 .act-row .ensures) (c5 .if1 .left) (c4 .get-usize .ensures .0)
     (c3 .get-usize2 .ensures .0) (c .before .get-usize3 .ensures .0 ∙ h .count) (c .if2 .taken)
 
-add-size : tie.Need-add-size
-add-size c = search needs
+add-get-usize : tie.Need-add-get-usize
+add-get-usize c = search needs
 
 get-usize-requires-4 : tie.Need-get-usize-requires-4
 get-usize-requires-4 c κs =
@@ -155,7 +155,7 @@ checkpoint-row-spec =
     get-usize-requires-3
     add-if2
     returns-2
-    add-size
+    add-get-usize
     get-usize-requires-4
     mul-if3
     returns-3

@@ -7,7 +7,8 @@ use Rattle.xdr.specs.Words.{word}
 use Rattle.rules.specs.Records.{number as numberOf, sends as sendsOf}
 use Rattle.rules.specs.Table.{recordsAt}
 use Rattle.tables.proofs.Scans.{number-next, sends-next, sends-at-most}
-use Rattle.scans.proofs.Laws.{Answers, send-none, send-found, send-passed}
+use Rattle.scans.specs.Sends.{Answers}
+use Rattle.scans.proofs.Found.{send-none, send-found, send-passed}
 use Rattle.scans.proofs.find_send.Statement.{statement}
 use Rattle.scans.proofs.find_send.Tie as tie
 

@@ -6,7 +6,7 @@ use borrow.Author.Needs.{needs}
 use Rattle.xdr.specs.Words.{word}
 use Rattle.rules.specs.Records.{hasReceipt}
 use Rattle.rules.specs.Table.{recordsAt}
-use Rattle.scans.proofs.Laws.{receipt-after, receipt-found}
+use Rattle.scans.proofs.Found.{receipt-after, receipt-found}
 use Rattle.scans.proofs.has_receipt.Statement.{statement}
 use Rattle.scans.proofs.has_receipt.Tie as tie
 
@@ -28,14 +28,14 @@ add-w c = search needs
 get-usize-requires : tie.Need-get-usize-requires Inv-loop μ-loop
 get-usize-requires c κs = search needs
 
-add-size : tie.Need-add-size Inv-loop μ-loop
-add-size c = search needs
+add-get-usize : tie.Need-add-get-usize Inv-loop μ-loop
+add-get-usize c = search needs
 
 get-usize-requires-2 : tie.Need-get-usize-requires-2 Inv-loop μ-loop
 get-usize-requires-2 c κs = search needs
 
-add-size-2 : tie.Need-add-size-2 Inv-loop μ-loop
-add-size-2 c = search needs
+add-get-usize-2 : tie.Need-add-get-usize-2 Inv-loop μ-loop
+add-get-usize-2 c = search needs
 
 get-usize-requires-3 : tie.Need-get-usize-requires-3 Inv-loop μ-loop
 get-usize-requires-3 c κs = search needs
@@ -80,9 +80,9 @@ has-receipt-spec =
     mul-w
     add-w
     get-usize-requires
-    add-size
+    add-get-usize
     get-usize-requires-2
-    add-size-2
+    add-get-usize-2
     get-usize-requires-3
     returns
     add-i

@@ -8,7 +8,7 @@ use borrow.Author.Tests.{lt-leb, not-true, not-false}
 use Rattle.xdr.specs.Words.{word}
 use Rattle.rules.specs.Table.{recordsAt}
 use Rattle.records.proofs.NumberedLines.{reached}
-use Rattle.scans.proofs.Laws.{position-initial, position-low, position-message, position-found, position-none}
+use Rattle.scans.proofs.Found.{position-initial, position-low, position-message, position-found, position-none}
 use Rattle.scans.proofs.position.Statement.{statement}
 use Rattle.scans.proofs.position.Tie as tie
 
@@ -33,8 +33,8 @@ add-w c = search needs
 add-i : tie.Need-add-i Inv-loop μ-loop
 add-i c = search needs
 
-add-size : tie.Need-add-size Inv-loop μ-loop
-add-size c = search needs
+add-get-usize : tie.Need-add-get-usize Inv-loop μ-loop
+add-get-usize c = search needs
 
 get-usize-requires : tie.Need-get-usize-requires Inv-loop μ-loop
 get-usize-requires c κs = search needs
@@ -93,7 +93,7 @@ position-spec =
     mul-w
     add-w
     add-i
-    add-size
+    add-get-usize
     get-usize-requires
     get-usize-requires-2
     returns-2

@@ -11,19 +11,19 @@ use lib.Dec.{ltb, eqb}
 use lib.ListN.{length, getD, set}
 use borrow.Author.Tests.{ltb-true, ltb-false, le-ltb, eqb-true, eq-eqb, ne-eqb, not-false}
 use Rattle.rules.specs.Records.{Event, sends}
-use Rattle.rules.specs.Table.{eventOf, recordsAt}
+use Rattle.rules.specs.Table.{width, eventAt, recordsAt}
 use Rattle.rules.specs.Lines.{isCheckpoint}
 use Rattle.rules.specs.FailureLine.{lastSaved, any, before}
 use Rattle.basics.proofs.Booleans.{Test, passes, fails, test, or-false, or-right, clash}
 use Rattle.records.proofs.Cuts.{last-le, before-all}
 use Rattle.tables.proofs.WellLaid.{records-length}
 use Rattle.tables.proofs.Scans.{event, second-only, sends-next}
-use Rattle.cuts.specs.Tests.{late, place, unsent, noteOf, noted}
+use Rattle.cuts.specs.Tests.{late, noteIndex, unsent, noteOf, noted}
 
 -- ---- what a record's words say
 
-checkpoint-event : (kind a b : ℕ) → isCheckpoint (eventOf kind a b) ≡ not (eqb kind 4 || eqb kind 3)
-checkpoint-event kind a b = event isCheckpoint kind a b refl ∙ go (eqb kind 4) (eqb kind 3)
+checkpoint-event : (w : ℕ → ℕ) (i : ℕ) → isCheckpoint (eventAt w i) ≡ not (eqb (w i) 4 || eqb (w i) 3)
+checkpoint-event w i = event isCheckpoint w i refl ∙ go (eqb (w i) 4) (eqb (w i) 3)
   where
     go : (x y : Bool) → cond x false (cond y false true) ≡ not (x || y)
     go true y = refl
@@ -31,9 +31,9 @@ checkpoint-event kind a b = event isCheckpoint kind a b refl ∙ go (eqb kind 4)
     go false false = refl
 
 -- a test that only receipts meet
-receipt-only : (f : Event → Bool) (kind a b : ℕ) (r : Bool)
-    → f (eventOf kind a b) ≡ cond (eqb kind 4) r (cond (eqb kind 3) false false) → f (eventOf kind a b) ≡ (eqb kind 4 && r)
-receipt-only f kind a b r e = e ∙ go (eqb kind 4) (eqb kind 3)
+receipt-only : (f : Event → Bool) (w : ℕ → ℕ) (i : ℕ) (r : Bool)
+    → f (eventAt w i) ≡ cond (eqb (w i) 4) r (cond (eqb (w i) 3) false false) → f (eventAt w i) ≡ (eqb (w i) 4 && r)
+receipt-only f w i r e = e ∙ go (eqb (w i) 4) (eqb (w i) 3)
   where
     go : (x y : Bool) → cond x r (cond y false false) ≡ (x && r)
     go true y = refl
@@ -44,7 +44,7 @@ receipt-only f kind a b r e = e ∙ go (eqb kind 4) (eqb kind 3)
 
 module _ (w : ℕ → ℕ) (at : ℕ) where
   abbrev record-at : ℕ → Event
-  record-at i = eventOf (w (at + 3 * i)) (w (at + 3 * i + 1)) (w (at + 3 * i + 2))
+  record-at i = eventAt w (at + width * i)
 
   -- ---- back to a saved position
 
@@ -58,13 +58,13 @@ module _ (w : ℕ → ℕ) (at : ℕ) where
   last-next : (j : ℕ) → lastSaved (recordsAt w at (suc j)) ≡ cond (isCheckpoint (record-at j)) (suc j) (lastSaved (recordsAt w at j))
   last-next j = ap (λ (l : ℕ). cond (isCheckpoint (record-at j)) (suc l) (lastSaved (recordsAt w at j))) (records-length w at j)
 
-  pub saved-next : {i kind : ℕ} → i ≢ 0 → kind ≡ w (at + 3 * (i - 1))
+  pub saved-next : {i kind : ℕ} → i ≢ 0 → kind ≡ w (at + width * (i - 1))
       → not (eqb kind 4 || eqb kind 3) ≡ eqb (lastSaved (recordsAt w at i)) i
   saved-next {i = zero} ne x = absurd (ne refl)
   saved-next {i = suc j} {kind} ne x =
       let d : suc j - 1 ≡ j = omega arith in
-      let y : kind ≡ w (at + 3 * j) = x ∙ ap (λ (m : ℕ). w (at + 3 * m)) d in
-      rw y (sym (checkpoint-event (w (at + 3 * j)) (w (at + 3 * j + 1)) (w (at + 3 * j + 2))) ∙ rw (last-next j) (go (isCheckpoint (record-at j)) (last-at j)))
+      let y : kind ≡ w (at + width * j) = x ∙ ap (λ (m : ℕ). w (at + width * m)) d in
+      rw y (sym (checkpoint-event w (at + width * j)) ∙ rw (last-next j) (go (isCheckpoint (record-at j)) (last-at j)))
     where
       go : (b : Bool) → lastSaved (recordsAt w at j) ≤ j → b ≡ eqb (cond b (suc j) (lastSaved (recordsAt w at j))) (suc j)
       go true l = sym (eq-eqb (suc j) (suc j) refl)
@@ -111,7 +111,7 @@ module _ (w : ℕ → ℕ) (at : ℕ) where
         sym (eqb-true (lastSaved (recordsAt w at i)) i (sym is ∙ not-false s (o .1))) ∙ last (ltb-false r i (o .0))
 
   -- one record less
-  pub sends-back : {i j k kind x : ℕ} → 0 < i → j ≡ i - 1 → kind ≡ w (at + 3 * j) → k ≡ sends (recordsAt w at i)
+  pub sends-back : {i j k kind x : ℕ} → 0 < i → j ≡ i - 1 → kind ≡ w (at + width * j) → k ≡ sends (recordsAt w at i)
       → x ≡ cond (eqb kind 3) 1 0 → (x ≤ k) × (k - x ≡ sends (recordsAt w at j))
   sends-back {i} {j} {k} {kind} {x} m d y h e = go (test (eqb kind 3))
     where
@@ -158,36 +158,32 @@ module _ (w : ℕ → ℕ) (at : ℕ) where
 
   -- ---- tests
 
-  pub late-event : (counts : List ℕ) (i : ℕ) {kind a b k : ℕ} → kind ≡ w (at + 3 * i) → a ≡ w (at + 3 * i + 1)
-      → b ≡ w (at + 3 * i + 2) → k ≡ getD counts (a % 16) 0 → (eqb kind 4 && ltb k b) ≡ late counts (record-at i)
+  pub late-event : (counts : List ℕ) (i : ℕ) {kind a b k : ℕ} → kind ≡ w (at + width * i) → a ≡ w (at + width * i + 1)
+      → b ≡ w (at + width * i + 2) → k ≡ getD counts (a % 16) 0 → (eqb kind 4 && ltb k b) ≡ late counts (record-at i)
   late-event counts i x y z u =
-      let k = w (at + 3 * i) in
-      let a = w (at + 3 * i + 1) in
-      let b = w (at + 3 * i + 2) in
-      rw (u, x, y, z) (sym (receipt-only (late counts) k a b (ltb (getD counts (a % 16) 0) b) (event (late counts) k a b refl)))
+      let j = at + width * i in
+      rw (u, x, y, z) (sym (receipt-only (late counts) w j (ltb (getD counts (w (j + 1) % 16) 0) (w (j + 2))) (event (late counts) w j refl)))
 
-  pub unsent-event : (E p : ℕ) (to : List ℕ) (i : ℕ) {kind a b d : ℕ} → kind ≡ w (at + 3 * i) → a ≡ w (at + 3 * i + 1)
-      → b ≡ w (at + 3 * i + 2) → d ≡ place E (length to) a b
+  pub unsent-event : (E p : ℕ) (to : List ℕ) (i : ℕ) {kind a b d : ℕ} → kind ≡ w (at + width * i) → a ≡ w (at + width * i + 1)
+      → b ≡ w (at + width * i + 2) → d ≡ noteIndex E (length to) a b
       → (eqb kind 4 && not (eqb (getD to d 0) p)) ≡ unsent E p to (record-at i)
   unsent-event E p to i x y z u =
-      let k = w (at + 3 * i) in
-      let a = w (at + 3 * i + 1) in
-      let b = w (at + 3 * i + 2) in
+      let j = at + width * i in
       rw (u, x, y, z)
-      (sym (receipt-only (unsent E p to) k a b (not (eqb (getD to (place E (length to) a b) 0) p)) (event (unsent E p to) k a b refl)))
+      (sym (receipt-only (unsent E p to) w j (not (eqb (getD to (noteIndex E (length to) (w (j + 1)) (w (j + 2))) 0) p)) (event (unsent E p to) w j refl)))
 
   -- ---- notes
 
-  note-event : (kind a b : ℕ) → noteOf (eventOf kind a b) ≡ cond (eqb kind 3) (a % 32) 16
-  note-event kind a b = event noteOf kind a b refl ∙ second-only kind (a % 32) 16
+  note-event : (i : ℕ) → noteOf (eventAt w i) ≡ cond (eqb (w i) 3) (w (i + 1) % 32) 16
+  note-event i = event noteOf w i refl ∙ second-only (w i) (w (i + 1) % 32) 16
 
-  pub note-next : (E q : ℕ) (to : List ℕ) (i : ℕ) {kind a k v : ℕ} {u : List ℕ} → kind ≡ w (at + 3 * i) → a ≡ w (at + 3 * i + 1)
+  pub note-next : (E q : ℕ) (to : List ℕ) (i : ℕ) {kind a k v : ℕ} {u : List ℕ} → kind ≡ w (at + width * i) → a ≡ w (at + width * i + 1)
       → u ≡ noted E q (recordsAt w at i) to → k ≡ sends (recordsAt w at i) → v ≡ cond (eqb kind 3) (a % 32) 16
       → set u (q * E + k + 1) v ≡ noted E q (recordsAt w at (i + 1)) to
-  note-next E q to i x y h s e = rw (h, s, e, x, y, add-one i, note-event)
+  note-next E q to i x y h s e = rw (h, s, e, x, y, add-one i, note-event (at + width * i))
 
-pub place-in : (E len q k : ℕ) → 0 < len → place E len q k < len
-place-in E len q k l = go (test (ltb (q * E + k) len))
+pub note-inside : (E len q k : ℕ) → 0 < len → noteIndex E len q k < len
+note-inside E len q k l = go (test (ltb (q * E + k) len))
   where
     go : Test (ltb (q * E + k) len) → cond (ltb (q * E + k) len) (q * E + k) 0 < len
     go (passes x) = rw x (ltb-true (q * E + k) len x)

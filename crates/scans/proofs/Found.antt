@@ -10,8 +10,9 @@ use lib.Dec.{eqb, leb, ltb}
 use lib.ListN.{length}
 use borrow.Author.Tests.{ltb-true, lt-ltb, le-leb, lt-leb, leb-false, eqb-true, eqb-false, eq-eqb, ne-eqb}
 use Rattle.rules.specs.Records.{Event, basic, forced, sent, received, History, number, sends, carried, destination, hasReceipt}
-use Rattle.rules.specs.Table.{eventOf, recordsAt}
+use Rattle.rules.specs.Table.{width, eventAt, recordsAt}
 use Rattle.rules.specs.Lines.{atLeast, numbered}
+use Rattle.scans.specs.Sends.{Answers}
 use Rattle.basics.proofs.Older.{Older, same, newer}
 use Rattle.basics.proofs.Booleans.{Test, passes, fails, test, or-false, or-right}
 use Rattle.records.proofs.Histories.{sends-older, carried-older, destination-older}
@@ -57,35 +58,34 @@ module _ (N : ℕ) where
 
     -- record i
     module _ (i : ℕ) (none : reached N (recordsAt w at i) ≡ false) where
+      -- where it starts
+      abbrev here : ℕ
+      here = at + width * i
+
       abbrev event : Event
-      event = eventOf (w (at + 3 * i)) (w (at + 3 * i + 1)) (w (at + 3 * i + 2))
+      event = eventAt w here
 
       passed : atLeast N event ≡ false → reached N (recordsAt w at (i + 1)) ≡ false
       passed f = rw (add-one i, f, none)
 
-      module _ {a : ℕ} (y : a ≡ w (at + 3 * i + 1)) where
+      module _ {a : ℕ} (y : a ≡ w (here + 1)) where
         pub position-low : a < N → reached N (recordsAt w at (i + 1)) ≡ false
         position-low l =
             passed
-            (least-event N (w (at + 3 * i)) (w (at + 3 * i + 1)) (w (at + 3 * i + 2))
-            ∙ rw (← y, lt-leb N a l) (and-false (not (eqb (w (at + 3 * i)) 4 || eqb (w (at + 3 * i)) 3))))
+            (least-event N w here ∙ rw (← y, lt-leb N a l) (and-false (not (eqb (w here) 4 || eqb (w here) 3))))
 
-        module _ {kind : ℕ} (x : kind ≡ w (at + 3 * i)) where
+        module _ {kind : ℕ} (x : kind ≡ w here) where
           pub position-message : (eqb kind 4 || eqb kind 3) ≡ true → reached N (recordsAt w at (i + 1)) ≡ false
-          position-message t = passed (least-event N (w (at + 3 * i)) (w (at + 3 * i + 1)) (w (at + 3 * i + 2)) ∙ rw (← x, t))
+          position-message t = passed (least-event N w here ∙ rw (← x, t))
 
           pub position-found : {c : ℕ} → i < c → N ≤ a → (eqb kind 4 || eqb kind 3) ≡ false → i + 1 ≡ numbered N (recordsAt w at c)
           position-found {c} l le f =
-              let least : atLeast N event ≡ true = least-event N (w (at + 3 * i)) (w (at + 3 * i + 1)) (w (at + 3 * i + 2)) ∙ rw (← x, ← y, f, le-leb N a le) in
+              let least : atLeast N event ≡ true = least-event N w here ∙ rw (← x, ← y, f, le-leb N a le) in
               let t : reached N (recordsAt w at (suc i)) ≡ true = rw least in
               let n : suc i ≡ numbered N (recordsAt w at (suc i)) = rw (numbered-cons N event (recordsAt w at i), none, records-length w at i) in
               add-one i ∙ n ∙ sym (numbered-older (records-older w at (suc i) c (omega arith)) t)
 
 -- ---- send k
-
--- whether it is there, the number that it carries and its destination
-abbrev pub Answers : ℕ → History → Bool → ℕ → ℕ → Type 0
-Answers k h found m d = (found ≡ (ltb 0 k && leb k (sends h))) × (m ≡ carried h k) × (d ≡ destination h k)
 
 pub send-none : (k : ℕ) → Answers k [] false 0 0
 send-none k = (go (test (ltb 0 k)), refl, refl)
@@ -95,7 +95,7 @@ send-none k = (go (test (ltb 0 k)), refl, refl)
     go (fails p) = rw p
 
 -- record i, before which there are s sends and after which there are n
-module _ (w : ℕ → ℕ) (at i k : ℕ) {kind a s n m : ℕ} (x : kind ≡ w (at + 3 * i)) (y : a ≡ w (at + 3 * i + 1))
+module _ (w : ℕ → ℕ) (at i k : ℕ) {kind a s n m : ℕ} (x : kind ≡ w (at + width * i)) (y : a ≡ w (at + width * i + 1))
     (e : m ≡ number (recordsAt w at i)) (f : s ≡ sends (recordsAt w at i)) (u : n ≡ cond (eqb kind 3) (s + 1) s) where
   after : n ≡ sends (recordsAt w at (i + 1))
   after = sends-next w at i x f u
@@ -154,7 +154,7 @@ module _ (q k : ℕ) where
   receipt-older (newer {e = received r j} {g} o) t = or-right (eqb r q && eqb j k) (hasReceipt g q k) (receipt-older o t)
 
   -- record i, before which there is none
-  module _ (w : ℕ → ℕ) (at i : ℕ) {kind a b : ℕ} (x : kind ≡ w (at + 3 * i)) (y : a ≡ w (at + 3 * i + 1)) (z : b ≡ w (at + 3 * i + 2))
+  module _ (w : ℕ → ℕ) (at i : ℕ) {kind a b : ℕ} (x : kind ≡ w (at + width * i)) (y : a ≡ w (at + width * i + 1)) (z : b ≡ w (at + width * i + 2))
       (none : hasReceipt (recordsAt w at i) q k ≡ false) where
     pub receipt-after : hasReceipt (recordsAt w at (i + 1)) q k ≡ (eqb kind 4 && eqb a q && eqb b k)
     receipt-after = sym (receipt-next w at i x y q k z (sym none))

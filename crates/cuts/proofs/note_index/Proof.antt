@@ -1,8 +1,8 @@
 use native.Mathlib.Nat.{mul-le-mul}
 use native.Mathlib.Omega.{arith}
 use borrow.Author.Needs.{needs}
-use Rattle.cuts.proofs.place.Statement.{statement}
-use Rattle.cuts.proofs.place.Tie as tie
+use Rattle.cuts.proofs.note_index.Statement.{statement}
+use Rattle.cuts.proofs.note_index.Tie as tie
 
 mul-x : tie.Need-mul-x
 mul-x c =
@@ -22,5 +22,5 @@ pick-requires c κs = search needs
 returns : tie.Need-returns
 returns c = search needs
 
-pub place-spec : {M : Type 1} → statement M
-place-spec = tie.close (tie.spec mul-x add-x pick-requires returns)
+pub note-index-spec : {M : Type 1} → statement M
+note-index-spec = tie.close (tie.spec mul-x add-x pick-requires returns)

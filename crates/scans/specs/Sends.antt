@@ -1,0 +1,10 @@
+-- What the search for a send promises.
+use mathlib.Core.Path.{_≡_}
+use mathlib.Core.Bool.{Bool, _&&_}
+use Prim.Native.Nat.{ℕ}
+use lib.Dec.{leb, ltb}
+use Rattle.rules.specs.Records.{History, sends, carried, destination}
+
+-- whether send k of the history h is there, the number that it carries and its destination
+abbrev pub Answers : ℕ → History → Bool → ℕ → ℕ → Type 0
+Answers k h found m d = (found ≡ (ltb 0 k && leb k (sends h))) × (m ≡ carried h k) × (d ≡ destination h k)
