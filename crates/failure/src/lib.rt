@@ -2,11 +2,13 @@
 ghost use mathlib.Core.Path.{_≡_};
 ghost use mathlib.Core.List.{_++_};
 ghost use Prim.Native.Nat.{ℕ, _+_, _*_, _≤_, _<_};
+ghost use lib.Dec.{ltb};
 ghost use lib.ListN.{length, getD};
 ghost use lib.Count.{ones};
 ghost use Rattle.xdr.specs.Words.{word, putWord, putEach};
+ghost use Rattle.rules.specs.Records.{history};
 ghost use Rattle.rules.specs.Table.{decoded};
-ghost use Rattle.rules.specs.Lines.{backBelow};
+ghost use Rattle.rules.specs.Lines.{maskBelow};
 ghost use Rattle.rules.specs.FailureLine.{failureLine};
 ghost use Rattle.rules.specs.Calls.{outcome, first, tableRows, failureRows, failedOn};
 ghost use Rattle.lowering.specs.Lowering.{Laid};
@@ -21,10 +23,10 @@ fn positions(t: &[u8], n: usize, e: usize, mask: u32) -> [u16; 16]
     cut.position
 }
 
-// The mask of the processes that go back.
+// The mask of the processes below their count.
 fn back(t: &[u8], n: usize, e: usize, position: [u16; 16]) -> u32
     requires { ⌜ Laid (now t) n e ⌝ }
-    ensures { λ r. ⌜ r ≡ backBelow (decoded (now (t .entry))) position n ⌝ }
+    ensures { λ r. ⌜ r ≡ maskBelow (λ p. ltb (getD position p 0) (length (history (decoded (now (t .entry))) p))) n ⌝ }
 {
     let mut mask: usize = 0;
     let mut bit: usize = 1;

@@ -19,7 +19,7 @@ use Rattle.records.proofs.Histories.{sends-older, destination-older, holds-held
 use Rattle.records.proofs.Cuts.{upto-is-older, upto-mono, any-older, any-none, none-any, lowered-le, lowered-permitted, lowered-keeps}
 use Rattle.records.proofs.FailureLines.{each-length, each-at, failure-line}
 use Rattle.cuts.specs.Tests.{late}
-use Rattle.lowering.specs.Lowering.{Counted, Over, Lowered, lost, NoneLost, NoneLate}
+use Rattle.lowering.specs.Lowering.{Counted, Over, Lowered, alwaysOrphan, NoneAlways, NoneLate}
 
 pub decEq : (q p : ℕ) → Dec (q ≡ p)
 decEq q p = go (test (eqb q p))
@@ -56,8 +56,8 @@ pub lowered-trans : (s : State) (P Q R : List ℕ) → Lowered s P Q → Lowered
 lowered-trans s P Q R a b = record { down = λ p lt. le-trans (b .down p lt) (a .down p lt); over = λ mask O. b .over mask (a .over mask O) }
 
 -- a lowered cut has no receipt that the cut did not have
-pub lost-lowered : (s : State) (P Q : List ℕ) → Lowered s P Q → NoneLost s P (length s) → NoneLost s Q (length s)
-lost-lowered s P Q l none q lt = any-older (lost s q) (upto-mono (getD Q q 0) (getD P q 0) (history s q) (l .down q lt)) (none q lt)
+pub always-lowered : (s : State) (P Q : List ℕ) → Lowered s P Q → NoneAlways s P (length s) → NoneAlways s Q (length s)
+always-lowered s P Q l none q lt = any-older (alwaysOrphan s q) (upto-mono (getD Q q 0) (getD P q 0) (history s q) (l .down q lt)) (none q lt)
 
 -- ---- one process taken back for a test o
 
@@ -147,10 +147,10 @@ lower-fair s P p wide o fair = record { down = λ q lq. down q lq (decEq q p); o
 
 -- ---- the two tests
 
-pub lost-fair : (s : State) (P : List ℕ) (p : ℕ) → Fair s P p (lost s p)
-lost-fair s P p mask O other A clean = none-any (lost s p) (part s other p) (λ e m. go e (clean p e m))
+pub always-fair : (s : State) (P : List ℕ) (p : ℕ) → Fair s P p (alwaysOrphan s p)
+always-fair s P p mask O other A clean = none-any (alwaysOrphan s p) (part s other p) (λ e m. go e (clean p e m))
   where
-    go : (e : Event) → orphan s other p e ≡ false → lost s p e ≡ false
+    go : (e : Event) → orphan s other p e ≡ false → alwaysOrphan s p e ≡ false
     go (basic m) x = refl
     go (forced m) x = refl
     go (sent q) x = refl
@@ -176,11 +176,11 @@ module _ (s : State) (P S : List ℕ) (C : Counted s P S) (few : length s ≤ 16
           let d = count-of q lq in
           le-ltb (getD S (q % 16) 0) k (omega arith)
 
-  -- a cut in which no receipt is lost or late has no orphan
-  pub none-clean : NoneLost s P (length s) → NoneLate s P S (length s) → NoOrphan s P
-  none-clean lost-none late-none p e m = at (decLt p (length s))
+  -- a cut in which no receipt is an orphan in every cut, and none is late, has no orphan
+  pub none-clean : NoneAlways s P (length s) → NoneLate s P S (length s) → NoOrphan s P
+  none-clean always-none late-none p e m = at (decLt p (length s))
     where
-      go : p < length s → (x : Event) → lost s p x ≡ false → late S x ≡ false → orphan s P p x ≡ false
+      go : p < length s → (x : Event) → alwaysOrphan s p x ≡ false → late S x ≡ false → orphan s P p x ≡ false
       go lt (basic n) a b = refl
       go lt (forced n) a b = refl
       go lt (sent q) a b = refl
@@ -198,7 +198,7 @@ module _ (s : State) (P S : List ℕ) (C : Counted s P S) (few : length s ≤ 16
           }))
 
       at : Dec (p < length s) → orphan s P p e ≡ false
-      at (yes lt) = go lt e (any-none (lost s p) (part s P p) (lost-none p lt) e m) (any-none (late S) (part s P p) (late-none p lt) e m)
+      at (yes lt) = go lt e (any-none (alwaysOrphan s p) (part s P p) (always-none p lt) e m) (any-none (late S) (part s P p) (late-none p lt) e m)
       at (no l) =
           let z : part s P p ≡ [] = ap (upto (getD P p 0)) (beyond s p (omega arith)) in
           absurd (List·Memᴰ·not-nil (rw z at m))

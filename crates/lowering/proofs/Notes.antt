@@ -19,9 +19,9 @@ use Rattle.basics.proofs.Booleans.{Test, passes, fails, test}
 use Rattle.records.proofs.Histories.{Each, each-older}
 use Rattle.records.proofs.Cuts.{upto-is-older}
 use Rattle.tables.proofs.Laid.{Law, Legal, sends-length}
-use Rattle.cuts.specs.Tests.{place, unsent, noteOf, noted}
-use Rattle.lowering.specs.Lowering.{Laid, Counted, lost, goes, Noted, Blank}
-use Rattle.lowering.proofs.Cuts.{decEq, lost-fair}
+use Rattle.cuts.specs.Tests.{noteIndex, unsent, noteOf, noted}
+use Rattle.lowering.specs.Lowering.{Laid, Counted, alwaysOrphan, goes, Noted, Blank}
+use Rattle.lowering.proofs.Cuts.{decEq, always-fair}
 use Rattle.lowering.proofs.Steps.{lawful, section, view, Written, step}
 
 module _ (E q : ℕ) (to : List ℕ) where
@@ -116,18 +116,18 @@ before-same o o′ P f (e ∷ h) r =
     let a = f e h (r .0) in
     (rw (a, b .0), rw (a, b .0, b .1))
 
-pub unsent-lost : (s : State) (n E p : ℕ) (to : List ℕ) → p < 16 → n * E < length to → Noted s E to n → (h : History) → Legal n E p h
-    → before (unsent E p to) h ≡ before (lost s p) h
-unsent-lost s n E p to lp room N h legal = before-same (unsent E p to) (lost s p) (Law n E p) same h legal .1
+pub unsent-always : (s : State) (n E p : ℕ) (to : List ℕ) → p < 16 → n * E < length to → Noted s E to n → (h : History) → Legal n E p h
+    → before (unsent E p to) h ≡ before (alwaysOrphan s p) h
+unsent-always s n E p to lp room N h legal = before-same (unsent E p to) (alwaysOrphan s p) (Law n E p) same h legal .1
   where
-    same : (e : Event) (g : History) → Law n E p e g → unsent E p to e ≡ lost s p e
+    same : (e : Event) (g : History) → Law n E p e g → unsent E p to e ≡ alwaysOrphan s p e
     same (basic m) g a = refl
     same (forced m) g a = refl
     same (sent d) g a = refl
     same (received q k) g (lq, ne, pos, le) =
         let m = mul-le-mul-right {m = q + 1} {n = n} E (omega arith) in
-        let i : place E (length to) q k ≡ q * E + k = rw (lt-ltb (q * E + k) (length to) (omega arith)) in
-        let z : eqb (getD to (place E (length to) q k) 0) p ≡ hasSend f p k =
+        let i : noteIndex E (length to) q k ≡ q * E + k = rw (lt-ltb (q * E + k) (length to) (omega arith)) in
+        let z : eqb (getD to (noteIndex E (length to) q k) 0) p ≡ hasSend f p k =
         rw (i, N q k lq pos le, lt-ltb 0 k pos) (go (leb k (sends f)) (destination f k))
         in
         ap not z
@@ -153,12 +153,12 @@ module _ (t : List ℕ) (b : Bytes t) {n E : ℕ} (L : Laid t n E) (p : ℕ) (lt
       (e ∙ ap (λ (h : History). noted E p h to) (ap (recordsAt (word t) (at + heading)) z ∙ H .events))
 
   -- what the scan finds is the first receipt that is an orphan in every cut
-  pub lost-step : (P S : List ℕ) → Counted (decoded t) P S → (to : List ℕ) → n * E < length to → Noted (decoded t) E to n
+  pub always-step : (P S : List ℕ) → Counted (decoded t) P S → (to : List ℕ) → n * E < length to → Noted (decoded t) E to n
       → {c : ℕ} → c ≡ getD P p 0 → {r : ℕ} → r ≡ length (before (unsent E p to) (recordsAt (word t) (at + heading) c))
-      → Written t P S n p at (lost (decoded t) p) c r
-  lost-step P S C to room N {c} is e =
+      → Written t P S n p at (alwaysOrphan (decoded t) p) c r
+  always-step P S C to room N {c} is e =
       let f = L .3 in
       let here = view t b L P S C p lt i is .here in
       let legal = each-older (Law n E p) (upto-is-older (getD P p 0) (history (decoded t) p)) (lawful t b L p) in
-      let same = unsent-lost (decoded t) n E p to (omega arith) room N (recordsAt (word t) (at + heading) c) (subst (Legal n E p) here legal) in
-      step t b L P S C p lt i (lost (decoded t) p) (lost-fair (decoded t) P p) is (e ∙ ap length same)
+      let same = unsent-always (decoded t) n E p to (omega arith) room N (recordsAt (word t) (at + heading) c) (subst (Legal n E p) here legal) in
+      step t b L P S C p lt i (alwaysOrphan (decoded t) p) (always-fair (decoded t) P p) is (e ∙ ap length same)

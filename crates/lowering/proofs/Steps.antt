@@ -26,10 +26,10 @@ use Rattle.records.proofs.NumberedLines.{upto-older}
 use Rattle.records.proofs.Cuts.{upto-is-older, last-le, top-le, top-permitted, top-latest, before-older, before-less, before-all, lowered-le, lowered-none, lowered-less}
 use Rattle.tables.proofs.Laid.{Legal, sends-length}
 use Rattle.tables.proofs.WellLaid.{records-length, decoded-length}
-use Rattle.tables.proofs.OneCall.{Whole, whole, table-legal}
+use Rattle.tables.proofs.OneCall.{Valid, valid, table-legal}
 use Rattle.tables.proofs.Outcomes.{Head, head}
 use Rattle.cuts.specs.Tests.{late}
-use Rattle.lowering.specs.Lowering.{Laid, Counted, Over, Lowered, lost, Pruned, Settled, Blank}
+use Rattle.lowering.specs.Lowering.{Laid, Counted, Over, Lowered, alwaysOrphan, Pruned, Settled, Blank}
 use Rattle.lowering.proofs.Cuts.{decEq, total, lowered-refl, lowered-trans, part-same, part-other, set-counted, set-total, Fair, lower-fair, late-fair}
 
 -- ---- older parts of the records from word `at` on
@@ -57,17 +57,17 @@ module _ (w : ℕ → ℕ) (at : ℕ) where
 -- ---- a table whose rows are passed
 
 module _ (t : List ℕ) (b : Bytes t) {n E : ℕ} (L : Laid t n E) where
-  pub is-whole : Whole t
-  is-whole = whole t b (none-met (tableRows t) tt (L .0))
+  pub is-valid : Valid t
+  is-valid = valid t b (none-met (tableRows t) tt (L .0))
 
   pub processes : length (decoded t) ≡ n
-  processes = decoded-length (word t 0) (word t 1) t (is-whole .is) ∙ sym (L .1)
+  processes = decoded-length (word t 0) (word t 1) t (is-valid .is) ∙ sym (L .1)
 
   pub lawful : (p : ℕ) → Legal n E p (history (decoded t) p)
-  lawful p = rw (L .1, L .2) (table-legal (word t 0) (word t 1) t (is-whole .is) p)
+  lawful p = rw (L .1, L .2) (table-legal (word t 0) (word t 1) t (is-valid .is) p)
 
   pub section : (p : ℕ) → p < n → {at : ℕ} → at ≡ start E p → Head t p E at
-  section p lt i = head t is-whole p (let e = L .1 in omega arith) (L .2) i
+  section p lt i = head t is-valid p (let e = L .1 in omega arith) (L .2) i
 
   -- process p's part of a cut, up to position x, where its section starts at word `at`
   pub record View (P S : List ℕ) (p at x : ℕ) : Type 0 where
@@ -370,10 +370,10 @@ pub blank : (m : ℕ) → Blank (replicate m 16) 0
 blank m i lt le = getD-replicate m i 16 0 (subst (λ (x : ℕ). i < x) (length-replicate {A = ℕ} m 16) le)
 
 pub pruned-next : (s : State) (P₀ P S P′ S′ : List ℕ) (n p : ℕ) {moves : Bool} → Pruned s P₀ P S p
-    → Step s P S P′ S′ n p (lost s p) moves → Pruned s P₀ P′ S′ (p + 1)
+    → Step s P S P′ S′ n p (alwaysOrphan s p) moves → Pruned s P₀ P′ S′ (p + 1)
 pruned-next s P₀ P S P′ S′ n p (C, l, none) u =
     (u .counted, lowered-trans s P₀ P P′ l (u .lowers), λ q lt. at q lt (decEq q p))
   where
-    at : (q : ℕ) → q < p + 1 → Dec (q ≡ p) → any (lost s q) (part s P′ q) ≡ false
+    at : (q : ℕ) → q < p + 1 → Dec (q ≡ p) → any (alwaysOrphan s q) (part s P′ q) ≡ false
     at q lt (yes i) = rw i (u .none)
-    at q lt (no ne) = ap (any (lost s q)) (u .others q ne) ∙ none q (omega arith)
+    at q lt (no ne) = ap (any (alwaysOrphan s q)) (u .others q ne) ∙ none q (omega arith)

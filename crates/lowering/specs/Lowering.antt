@@ -35,15 +35,15 @@ pub record Lowered (s : State) (from to : List ℕ) : Type 0 where
   pub over : (mask : ℕ) → Over mask s from → Over mask s to
 
 -- a receipt of process p that is an orphan in every cut: its send is not there, or goes to another process
-abbrev pub lost : State → ℕ → Event → Bool
-lost s p (basic m) = false
-lost s p (forced m) = false
-lost s p (sent q) = false
-lost s p (received q k) = not (hasSend (history s q) p k)
+abbrev pub alwaysOrphan : State → ℕ → Event → Bool
+alwaysOrphan s p (basic m) = false
+alwaysOrphan s p (forced m) = false
+alwaysOrphan s p (sent q) = false
+alwaysOrphan s p (received q k) = not (hasSend (history s q) p k)
 
 -- none of the first p processes has such a receipt in the cut
-abbrev pub NoneLost : State → List ℕ → ℕ → Type 0
-NoneLost s position p = (q : ℕ) → q < p → any (lost s q) (part s position q) ≡ false
+abbrev pub NoneAlways : State → List ℕ → ℕ → Type 0
+NoneAlways s position p = (q : ℕ) → q < p → any (alwaysOrphan s q) (part s position q) ≡ false
 
 -- none of the first p processes has a receipt in the cut whose send number is above the sender's count
 abbrev pub NoneLate : State → List ℕ → List ℕ → ℕ → Type 0
@@ -53,7 +53,7 @@ NoneLate s position counts p = (q : ℕ) → q < p → any (late counts) (part s
 
 -- pruned at the first p processes
 abbrev pub Pruned : State → List ℕ → List ℕ → List ℕ → ℕ → Type 0
-Pruned s from position counts p = Counted s position counts × Lowered s from position × NoneLost s position p
+Pruned s from position counts p = Counted s position counts × Lowered s from position × NoneAlways s position p
 
 -- settled: none of the first n processes has a late receipt
 abbrev pub Settled : State → List ℕ → List ℕ → List ℕ → ℕ → Type 0

@@ -15,7 +15,7 @@ use Rattle.rules.specs.Steps.{Call, checkpoint, send, receipt}
 use Rattle.rules.specs.Calls.{areaLength, Row, row, first, tableRows, laterRows}
 use Rattle.basics.proofs.Booleans.{or-false}
 use Rattle.records.proofs.Rows.{none-met, first-none, split-zero, stopped, going}
-use Rattle.tables.proofs.OneCall.{Whole, whole}
+use Rattle.tables.proofs.OneCall.{Valid, valid}
 use Rattle.rows.specs.Rows.{actRows, pairRows, receiptRows, receiptRowsAt, stepRow}
 
 -- ---- the table, the area and the acting process
@@ -37,40 +37,40 @@ module _ (t : List ℕ) (len want p : ℕ) where
     pub act-none : r ≡ 0 → len ≡ want → {n : ℕ} → n ≡ word t 0 → p < n → 0 ≡ first (actRows t len want p)
     act-none z l {n} i lt = sym (going (tableRows t) rest tt e z ∙ rw (eq-eqb len want l, ← i, lt-leb n p lt))
 
--- the table is whole, and p is one of its processes
+-- the table is valid, and p is one of its processes
 pub record Acts (t : List ℕ) (p : ℕ) : Type 0 where
-  pub table : Whole t
+  pub table : Valid t
   pub below : p < word t 0
 
 pub acts : (t : List ℕ) → Bytes t → (len want p : ℕ) {r : ℕ} → r ≡ first (actRows t len want p) → r ≡ 0 → Acts t p
 acts t b len want p e z =
     let s = split-zero (tableRows t) (rest t len want p) tt (sym e ∙ z) in
     let m = none-met (rest t len want p) tt (s .1) in
-    let w = whole t b (s .0) in
+    let w = valid t b (s .0) in
     let l = leb-false (word t 0) p (m .1 .0) in
     record { table = w; below = l }
 
 -- ---- the other process
 
-module _ (t : List ℕ) (len p q : ℕ) {r : ℕ} (e : r ≡ first (actRows t len 8 p)) where
-  pub pair-act : r ≢ 0 → r ≡ first (pairRows t len p q)
-  pair-act ne = stopped (actRows t len 8 p) (row 6 (leb (word t 0) q || eqb q p) ∷ []) tt e ne
+module _ (t : List ℕ) (len want p q : ℕ) {r : ℕ} (e : r ≡ first (actRows t len want p)) where
+  pub pair-act : r ≢ 0 → r ≡ first (pairRows t len want p q)
+  pair-act ne = stopped (actRows t len want p) (row 6 (leb (word t 0) q || eqb q p) ∷ []) tt e ne
 
-  pub pair-other : r ≡ 0 → {n : ℕ} → n ≡ word t 0 → (leb n q || eqb q p) ≡ true → 6 ≡ first (pairRows t len p q)
-  pair-other z i b = sym (going (actRows t len 8 p) (row 6 (leb (word t 0) q || eqb q p) ∷ []) tt e z ∙ rw (← i, b))
+  pub pair-other : r ≡ 0 → {n : ℕ} → n ≡ word t 0 → (leb n q || eqb q p) ≡ true → 6 ≡ first (pairRows t len want p q)
+  pair-other z i b = sym (going (actRows t len want p) (row 6 (leb (word t 0) q || eqb q p) ∷ []) tt e z ∙ rw (← i, b))
 
-  pub pair-none : r ≡ 0 → {n : ℕ} → n ≡ word t 0 → (leb n q || eqb q p) ≡ false → 0 ≡ first (pairRows t len p q)
-  pair-none z i b = sym (going (actRows t len 8 p) (row 6 (leb (word t 0) q || eqb q p) ∷ []) tt e z ∙ rw (← i, b))
+  pub pair-none : r ≡ 0 → {n : ℕ} → n ≡ word t 0 → (leb n q || eqb q p) ≡ false → 0 ≡ first (pairRows t len want p q)
+  pair-none z i b = sym (going (actRows t len want p) (row 6 (leb (word t 0) q || eqb q p) ∷ []) tt e z ∙ rw (← i, b))
 
 -- of the other process too
 pub record Pairs (t : List ℕ) (p q : ℕ) : Type 0 where
   pub acting : Acts t p
   pub below : q < word t 0
 
-pub pairs : (t : List ℕ) → Bytes t → (len p q : ℕ) {r : ℕ} → r ≡ first (pairRows t len p q) → r ≡ 0 → Pairs t p q
-pairs t b len p q e z =
-    let s = split-zero (actRows t len 8 p) (row 6 (leb (word t 0) q || eqb q p) ∷ []) tt (sym e ∙ z) in
-    let a = acts t b len 8 p refl (first-none (actRows t len 8 p) (s .0)) in
+pub pairs : (t : List ℕ) → Bytes t → (len want p q : ℕ) {r : ℕ} → r ≡ first (pairRows t len want p q) → r ≡ 0 → Pairs t p q
+pairs t b len want p q e z =
+    let s = split-zero (actRows t len want p) (row 6 (leb (word t 0) q || eqb q p) ∷ []) tt (sym e ∙ z) in
+    let a = acts t b len want p refl (first-none (actRows t len want p) (s .0)) in
     let m = none-met (row 6 (leb (word t 0) q || eqb q p) ∷ []) tt (s .1) in
     let l = leb-false (word t 0) q (or-false (leb (word t 0) q) (eqb q p) (m .0) .0) in
     record { acting = a; below = l }
@@ -97,31 +97,31 @@ module _ (t : List ℕ) (p len : ℕ) {r : ℕ} (e : r ≡ first (actRows t len 
   checkpoint-none l {x} i j = sym (step-going t p checkpoint len e z ∙ rw (← a, ← b, ← h, ← i, le-ltb E (c + 1) l, ne-eqb x (n * E) j))
 
 -- a send, where c of E records are used
-module _ (t : List ℕ) (p q len : ℕ) {r : ℕ} (e : r ≡ first (pairRows t len p q)) where
+module _ (t : List ℕ) (p q len : ℕ) {r : ℕ} (e : r ≡ first (pairRows t len (areaLength (send q)) p q)) where
   abbrev left : List Row
   left = row 9 (ltb (word t 1) (length (history (decoded t) p) + 1)) ∷ []
 
   pub send-stopped : r ≢ 0 → r ≡ stepRow t p (send q) len
-  send-stopped ne = stopped (pairRows t len p q) left tt e ne
+  send-stopped ne = stopped (pairRows t len (areaLength (send q)) p q) left tt e ne
 
   module _ (z : r ≡ 0) {E c : ℕ} (b : E ≡ word t 1) (h : c ≡ length (history (decoded t) p)) where
     pub send-full : E < c + 1 → 9 ≡ stepRow t p (send q) len
-    send-full l = sym (going (pairRows t len p q) left tt e z ∙ rw (← b, ← h, lt-ltb E (c + 1) l))
+    send-full l = sym (going (pairRows t len (areaLength (send q)) p q) left tt e z ∙ rw (← b, ← h, lt-ltb E (c + 1) l))
 
     pub send-none : c + 1 ≤ E → 0 ≡ stepRow t p (send q) len
-    send-none l = sym (going (pairRows t len p q) left tt e z ∙ rw (← b, ← h, le-ltb E (c + 1) l))
+    send-none l = sym (going (pairRows t len (areaLength (send q)) p q) left tt e z ∙ rw (← b, ← h, le-ltb E (c + 1) l))
 
 -- a receipt
-module _ (t : List ℕ) (p q k len : ℕ) {r : ℕ} (e : r ≡ first (pairRows t len p q)) where
+module _ (t : List ℕ) (p q k len : ℕ) {r : ℕ} (e : r ≡ first (pairRows t len (areaLength (receipt q k)) p q)) where
   abbrev message : List Row
   message = receiptRows (word t 1) (length (history (decoded t) p)) (number (history (decoded t) p)) (history (decoded t) p) (history (decoded t) q) p q k
 
   pub receipt-stopped : r ≢ 0 → r ≡ stepRow t p (receipt q k) len
-  receipt-stopped ne = stopped (pairRows t len p q) message tt e ne
+  receipt-stopped ne = stopped (pairRows t len (areaLength (receipt q k)) p q) message tt e ne
 
   pub receipt-going : r ≡ 0 → {E c x m : ℕ} {h g : History} → E ≡ word t 1 → c ≡ length (history (decoded t) p) → x ≡ number (history (decoded t) p)
       → h ≡ history (decoded t) p → g ≡ history (decoded t) q → m ≡ first (receiptRows E c x h g p q k) → m ≡ stepRow t p (receipt q k) len
-  receipt-going z a b d f i j = j ∙ rw (a, b, d, f, i) (sym (going (pairRows t len p q) message tt e z))
+  receipt-going z a b d f i j = j ∙ rw (a, b, d, f, i) (sym (going (pairRows t len (areaLength (receipt q k)) p q) message tt e z))
 
 -- ---- a receipt's message: section p starts at word `at` and has c records, section q starts at word `from` and has d
 

@@ -5,10 +5,10 @@ ghost use Prim.Native.Nat.{_+_, _*_, _≤_};
 ghost use lib.ListN.{length};
 ghost use Rattle.xdr.specs.Words.{word};
 ghost use Rattle.rules.specs.Records.{history, carried};
-ghost use Rattle.rules.specs.Table.{heading, width, sectionOf, decoded};
+ghost use Rattle.rules.specs.Table.{sectionOf, decoded};
 ghost use Rattle.rules.specs.Steps.{checkpoint, send, receipt};
 ghost use Rattle.rules.specs.Calls.{first};
-ghost use Rattle.rows.specs.Rows.{actRows, pairRows, receiptRowsAt, stepRow};
+ghost use Rattle.rows.specs.Rows.{actRows, pairRows, receiptRowsAt, SectionIn, stepRow};
 
 // The first row met, as far as the table, an area that wants `want` bytes and the acting process go, or 0.
 fn act_row(t: &[u8], len: usize, want: usize, p: usize) -> u32
@@ -47,11 +47,11 @@ pub fn checkpoint_row(t: &[u8], len: usize, p: usize) -> u32
     0
 }
 
-// The same as far as the other process goes, for an area of 8 bytes.
-fn pair_row(t: &[u8], len: usize, p: usize, q: usize) -> u32
-    ensures { λ r. ⌜ r ≡ first (pairRows (now (t .entry)) len p q) ⌝ }
+// The first row met, as far as the table, the area, the acting process and the other process go, or 0.
+fn pair_row(t: &[u8], len: usize, want: usize, p: usize, q: usize) -> u32
+    ensures { λ r. ⌜ r ≡ first (pairRows (now (t .entry)) len want p q) ⌝ }
 {
-    let row = act_row(t, len, 8, p);
+    let row = act_row(t, len, want, p);
     if row != 0 {
         return row;
     }
@@ -64,7 +64,7 @@ fn pair_row(t: &[u8], len: usize, p: usize, q: usize) -> u32
 pub fn send_row(t: &[u8], len: usize, p: usize, q: usize) -> u32
     ensures { λ r. ⌜ r ≡ stepRow (now (t .entry)) p (send q) len ⌝ }
 {
-    let row = pair_row(t, len, p, q);
+    let row = pair_row(t, len, 8, p, q);
     if row != 0 {
         return row;
     }
@@ -90,7 +90,7 @@ fn needed(forces: bool) -> usize
 
 // Message k of q, whose section starts at word `from`, to p, whose section starts at word `at`.
 fn message_row(t: &[u8], e: usize, at: usize, from: usize, p: usize, q: usize, k: usize) -> Message
-    requires { ⌜ (e ≤ 1024) × (at ≤ 65536) × (from ≤ 65536) × (word (now t) at ≤ e) × (word (now t) from ≤ e) × (4 * (at + heading + width * e) ≤ length (now t)) × (4 * (from + heading + width * e) ≤ length (now t)) ⌝ }
+    requires { ⌜ (e ≤ 1024) × SectionIn (now t) e at × SectionIn (now t) e from ⌝ }
     ensures { λ r. ⌜ (r .row ≡ first (receiptRowsAt (now (t .entry)) e at from p q k)) × (r .row ≡ 0 → r .carried ≡ carried (sectionOf (word (now (t .entry))) from) k) ⌝ }
 {
     let c = xdr::get_usize(t, at);
@@ -111,7 +111,7 @@ fn message_row(t: &[u8], e: usize, at: usize, from: usize, p: usize, q: usize, k
 pub fn receipt_row(t: &[u8], len: usize, p: usize, q: usize, k: usize) -> Message
     ensures { λ r. ⌜ (r .row ≡ stepRow (now (t .entry)) p (receipt q k) len) × (r .row ≡ 0 → r .carried ≡ carried (history (decoded (now (t .entry))) q) k) ⌝ }
 {
-    let row = pair_row(t, len, p, q);
+    let row = pair_row(t, len, 8, p, q);
     if row != 0 {
         return Message { row, carried: 0 };
     }

@@ -30,16 +30,16 @@ refused t a p call e ne =
     judged-stop t a (layout (word t 0) (word t 1) (stepped (decoded t) p call)) (answer (decoded t) p call) e ne
 
 -- an accepted one
-accepted : (t a : List ℕ) → Bytes t → Bytes a → (p : ℕ) (call : Call) {r : ℕ} → r ≡ stepRow t p call (length a) → r ≡ 0
-    → (ws : List ℕ) → Small ws → areaLength call ≡ 4 * length ws → ws ≡ answer (decoded t) p call
+accepted : (t a : List ℕ) → Bytes t → (p : ℕ) (call : Call) {r : ℕ} → r ≡ stepRow t p call (length a) → r ≡ 0
+    → (ws : List ℕ) → ws ≡ answer (decoded t) p call
     → {u b : List ℕ} → u ≡ stored (word t 1) t p (history (decoded t) p) (added (history (decoded t) p) call (carries (decoded t) call)) → b ≡ putWords a 0 ws
     → outcome 0 u b ≡ stepOn t a p call
 unfolding stepOn
-accepted t a bt ba p call e z ws small size same s o =
+accepted t a bt p call e z ws same s o =
     let P = passed t bt p call (length a) (sym e ∙ z) in
     judged-done t a (layout (word t 0) (word t 1) (stepped (decoded t) p call)) (answer (decoded t) p call) (sym e ∙ z)
     (s ∙ sym (step-stores t (P .table) p call (P .accepted)))
-    (o ∙ all-put a ws ba small (P .area ∙ size) ∙ ap bytes same)
+    (o ∙ ap (putWords a 0) same)
 
 -- one record, stored
 one-stored : (t : List ℕ) (p : ℕ) (h : History) (ev : Event) {at x s kind a b : ℕ} → at ≡ start (word t 1) p → word t at ≡ length h
@@ -89,7 +89,7 @@ receipt-room t a p q k E at m R i = rw (R .own .current, i)
 
 -- ---- the three calls
 
-module _ (t a : List ℕ) (bt : Bytes t) (ba : Bytes a) (p : ℕ) {E at x s : ℕ} (i : E ≡ word t 1) (j : at ≡ start E p)
+module _ (t a : List ℕ) (bt : Bytes t) (p : ℕ) {E at x s : ℕ} (i : E ≡ word t 1) (j : at ≡ start E p)
     (f : x ≡ word t (at + 1)) (g : s ≡ word t (at + 2)) where
   at-start : at ≡ start (word t 1) p
   at-start = rw (← i) j
@@ -100,7 +100,7 @@ module _ (t a : List ℕ) (bt : Bytes t) (ba : Bytes a) (p : ℕ) {E at x s : �
       let H = ready t a bt p checkpoint e z i j .own in
       let h = history (decoded t) p in
       let n : x + 1 ≡ suc (number h) = rw (f, H .current, add-one) refl in
-      accepted t a bt ba p checkpoint e z ((x + 1) ∷ []) (omega (arith, H .low)) refl (rw n)
+      accepted t a bt p checkpoint e z ((x + 1) ∷ []) (rw n)
       (v ∙ one-stored t p h (basic (suc (number h))) at-start (H .count) n (g ∙ H .sent) (rw n)) (one-put a (x + 1) w)
 
   pub send-done : (q : ℕ) {r : ℕ} {u b : List ℕ} → r ≡ stepRow t p (send q) (length a) → r ≡ 0 → u ≡ withRecord t at x (s + 1) 3 q (s + 1)
@@ -110,23 +110,16 @@ module _ (t a : List ℕ) (bt : Bytes t) (ba : Bytes a) (p : ℕ) {E at x s : �
       let H = ready t a bt p (send q) e z i j .own in
       let h = history (decoded t) p in
       let n : s + 1 ≡ suc (sends h) = rw (g, H .sent, add-one) refl in
-      accepted t a bt ba p (send q) e z ((s + 1) ∷ x ∷ []) (omega (arith, H .few), (omega (arith, H .low), tt)) refl (rw (n, f, H .current))
+      accepted t a bt p (send q) e z ((s + 1) ∷ x ∷ []) (rw (n, f, H .current))
       (v ∙ one-stored t p h (sent q) at-start (H .count) (f ∙ H .current) n (rw n)) w
 
-pub receipt-done : (t a : List ℕ) → Bytes t → Bytes a → (p q k : ℕ) {r E at m y : ℕ} {u b : List ℕ} → E ≡ word t 1 → at ≡ start E p
+pub receipt-done : (t a : List ℕ) → Bytes t → (p q k : ℕ) {r E at m y : ℕ} {u b : List ℕ} → E ≡ word t 1 → at ≡ start E p
     → r ≡ stepRow t p (receipt q k) (length a) → r ≡ 0 → m ≡ carried (history (decoded t) q) k
     → y ≡ cond (ltb (word t (at + 1)) m) 1 0
     → u ≡ withReceipt t at m q k
     → b ≡ putWords a 0 (m ∷ y ∷ []) → outcome 0 u b ≡ stepOn t a p (receipt q k)
-receipt-done t a bt ba p q k {E} {at} {m} {y} i j e z c n v w =
-    let W = clear t a bt p (receipt q k) e z .table in
+receipt-done t a bt p q k {E} {at} {m} {y} i j e z c n v w =
     let H = ready t a bt p (receipt q k) e z i j .own in
     let h = history (decoded t) p in
-    let low = carried-low t W q k in
-    let fits : m < 4294967296 = omega arith in
-    accepted t a bt ba p (receipt q k) e z (m ∷ y ∷ []) (fits, (small (ltb (word t (at + 1)) m) n, tt)) refl (rw (n, H .current, c))
+    accepted t a bt p (receipt q k) e z (m ∷ y ∷ []) (rw (n, H .current, c))
     (v ∙ receipt-stored t p h m q k (rw (← i) j) (H .count) (H .current) (H .sent) ∙ rw c) w
-  where
-    small : (x : Bool) → y ≡ cond x 1 0 → y < 4294967296
-    small true q = omega arith
-    small false q = omega arith

@@ -7,20 +7,21 @@ use native.Mathlib.Omega.{arith}
 use lib.Dec.{ltb}
 use borrow.Author.Tests.{lt-ltb, le-ltb}
 use Rattle.xdr.specs.Words.{word, putWords}
+use Rattle.rules.specs.Table.{heading, width}
 use Rattle.xdr.proofs.Puts.{put-append}
 use Rattle.store.specs.Added.{withRecord, withForced, withReceipt}
 
 module _ (t : List ℕ) (at s : ℕ) {c : ℕ} {t₁ : List ℕ} (r : c ≡ word t at) where
-  pub record-put : (x kind a b : ℕ) {t₂ : List ℕ} → t₁ ≡ putWords t at ((c + 1) ∷ x ∷ s ∷ []) → t₂ ≡ putWords t₁ (at + 3 + 3 * c) (kind ∷ a ∷ b ∷ [])
+  pub record-put : (x kind a b : ℕ) {t₂ : List ℕ} → t₁ ≡ putWords t at ((c + 1) ∷ x ∷ s ∷ []) → t₂ ≡ putWords t₁ (at + heading + width * c) (kind ∷ a ∷ b ∷ [])
       → t₂ ≡ withRecord t at x s kind a b
   record-put x kind a b h i = rw (i, h, r)
 
-  pub forced-put : (m q k : ℕ) {t₂ t₃ : List ℕ} → t₁ ≡ putWords t at ((c + 2) ∷ m ∷ s ∷ []) → t₂ ≡ putWords t₁ (at + 3 + 3 * c) (2 ∷ m ∷ 0 ∷ [])
-      → t₃ ≡ putWords t₂ (at + 3 + 3 * c + 3) (4 ∷ q ∷ k ∷ []) → t₃ ≡ withForced t at s m q k
+  pub forced-put : (m q k : ℕ) {t₂ t₃ : List ℕ} → t₁ ≡ putWords t at ((c + 2) ∷ m ∷ s ∷ []) → t₂ ≡ putWords t₁ (at + heading + width * c) (2 ∷ m ∷ 0 ∷ [])
+      → t₃ ≡ putWords t₂ (at + heading + width * c + width) (4 ∷ q ∷ k ∷ []) → t₃ ≡ withForced t at s m q k
   forced-put m q k {t₂} h i j =
       j
-      ∙ ap (λ (u : List ℕ). putWords u (at + 3 + 3 * c + 3) (4 ∷ q ∷ k ∷ [])) i
-      ∙ put-append t₁ (at + 3 + 3 * c) (2 ∷ m ∷ 0 ∷ []) (4 ∷ q ∷ k ∷ []) refl
+      ∙ ap (λ (u : List ℕ). putWords u (at + heading + width * c + width) (4 ∷ q ∷ k ∷ [])) i
+      ∙ put-append t₁ (at + heading + width * c) (2 ∷ m ∷ 0 ∷ []) (4 ∷ q ∷ k ∷ []) refl
       ∙ rw (h, r)
 
 -- a receipt that forces, and one that doesn't
@@ -36,8 +37,8 @@ module _ (t : List ℕ) (at m q k : ℕ) {x s : ℕ} {u : List ℕ} (h : x ≡ w
   not-forcing l e = (rw (← h, le-ltb x m l), rw (← h, le-ltb x m l, ← i) e)
 
 -- the room that a receipt needs, where c records are used and x is the number
-pub room-forcing : (at c : ℕ) {x m l : ℕ} → 4 * (at + 3 + 3 * (c + cond (ltb x m) 2 1)) ≤ l → x < m → 4 * (at + 9 + 3 * c) ≤ l
-room-forcing at c {x} {m} h g = let k = rw (lt-ltb x m g) at h in omega arith
+pub room-forcing : (at c : ℕ) {x m l : ℕ} → 4 * (at + heading + width * (c + cond (ltb x m) 2 1)) ≤ l → x < m → 4 * (at + heading + width * (c + 2)) ≤ l
+room-forcing at c {x} {m} h g = rw (lt-ltb x m g) at h
 
-pub room-not : (at c : ℕ) {x m l : ℕ} → 4 * (at + 3 + 3 * (c + cond (ltb x m) 2 1)) ≤ l → m ≤ x → 4 * (at + 6 + 3 * c) ≤ l
-room-not at c {x} {m} h g = let k = rw (le-ltb x m g) at h in omega arith
+pub room-not : (at c : ℕ) {x m l : ℕ} → 4 * (at + heading + width * (c + cond (ltb x m) 2 1)) ≤ l → m ≤ x → 4 * (at + heading + width * (c + 1)) ≤ l
+room-not at c {x} {m} h g = rw (le-ltb x m g) at h

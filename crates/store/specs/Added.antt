@@ -4,15 +4,16 @@ use mathlib.Core.List.{List, [], _∷_}
 use lib.Dec.{ltb}
 use Prim.Native.Nat.{ℕ, _+_, _*_}
 use Rattle.xdr.specs.Words.{word, putWords}
+use Rattle.rules.specs.Table.{heading, width}
 
 -- one record; x and s are the number and the count of sends after it
 abbrev pub withRecord : List ℕ → ℕ → ℕ → ℕ → ℕ → ℕ → ℕ → List ℕ
-withRecord t at x s kind a b = putWords (putWords t at ((word t at + 1) ∷ x ∷ s ∷ [])) (at + 3 + 3 * word t at) (kind ∷ a ∷ b ∷ [])
+withRecord t at x s kind a b = putWords (putWords t at ((word t at + 1) ∷ x ∷ s ∷ [])) (at + heading + width * word t at) (kind ∷ a ∷ b ∷ [])
 
 -- a forced checkpoint with number m, then the receipt of (q, k)
 abbrev pub withForced : List ℕ → ℕ → ℕ → ℕ → ℕ → ℕ → List ℕ
 withForced t at s m q k =
-    putWords (putWords t at ((word t at + 2) ∷ m ∷ s ∷ [])) (at + 3 + 3 * word t at) (2 ∷ m ∷ 0 ∷ 4 ∷ q ∷ k ∷ [])
+    putWords (putWords t at ((word t at + 2) ∷ m ∷ s ∷ [])) (at + heading + width * word t at) (2 ∷ m ∷ 0 ∷ 4 ∷ q ∷ k ∷ [])
 
 -- the receipt of (q, k), which carries m and forces where m is greater than the section's number
 abbrev pub forcesAt : List ℕ → ℕ → ℕ → Bool

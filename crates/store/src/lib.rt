@@ -5,33 +5,48 @@ ghost use mathlib.Core.List.{[], _∷_};
 ghost use Prim.Native.Nat.{_+_, _*_, _≤_};
 ghost use lib.ListN.{length};
 ghost use Rattle.xdr.specs.Words.{word, putWords};
+ghost use Rattle.rules.specs.Table.{heading, width, mostWords};
 ghost use Rattle.store.specs.Added.{withRecord, withForced, forcesAt, withReceipt};
+
+// The words of a record that starts at word i.
+fn put_record(t: &mut [u8], i: usize, kind: u32, a: u32, b: u32)
+    requires { ⌜ 4 * (i + width) ≤ length (now t) ⌝ }
+    ensures { λ _. ⌜ now (t .exit) ≡ putWords (now (t .entry)) i (kind ∷ a ∷ b ∷ []) ⌝ }
+{
+    xdr::put_three(t, i, kind, a, b);
+}
 
 // One record; x and s are the section's number and count of sends after it.
 pub fn add_record(t: &mut [u8], at: usize, x: u32, s: u32, kind: u32, a: u32, b: u32)
-    requires { ⌜ (at ≤ 65536) × (word (now t) at ≤ 1024) × (4 * (at + 6 + 3 * word (now t) at) ≤ length (now t)) ⌝ }
+    requires { ⌜ (at ≤ mostWords) × (word (now t) at ≤ 1024) × (4 * (at + heading + width * (word (now t) at + 1)) ≤ length (now t)) ⌝ }
     ensures { λ _. ⌜ now (t .exit) ≡ withRecord (now (t .entry)) at x s kind a b ⌝ }
 {
     let c = xdr::get(t, at);
     xdr::put_three(t, at, c + 1, x, s);
-    xdr::put_three(t, at + 3 + 3 * (c as usize), kind, a, b);
+    put_record(
+        t,
+        at + layout::HEADING + layout::WIDTH * (c as usize),
+        kind,
+        a,
+        b,
+    );
 }
 
 // A forced checkpoint with number m, then the receipt of (q, k).
 fn add_forced(t: &mut [u8], at: usize, s: u32, m: u32, q: u32, k: u32)
-    requires { ⌜ (at ≤ 65536) × (word (now t) at ≤ 1024) × (4 * (at + 9 + 3 * word (now t) at) ≤ length (now t)) ⌝ }
+    requires { ⌜ (at ≤ mostWords) × (word (now t) at ≤ 1024) × (4 * (at + heading + width * (word (now t) at + 2)) ≤ length (now t)) ⌝ }
     ensures { λ _. ⌜ now (t .exit) ≡ withForced (now (t .entry)) at s m q k ⌝ }
 {
     let c = xdr::get(t, at);
-    let w = at + 3 + 3 * (c as usize);
+    let w = at + layout::HEADING + layout::WIDTH * (c as usize);
     xdr::put_three(t, at, c + 2, m, s);
-    xdr::put_three(t, w, 2, m, 0);
-    xdr::put_three(t, w + 3, 4, q, k);
+    put_record(t, w, 2, m, 0);
+    put_record(t, w + layout::WIDTH, 4, q, k);
 }
 
 // The receipt of (q, k), which carries m; returns 1 if it forces a checkpoint, else 0.
 pub fn add_receipt(t: &mut [u8], at: usize, m: u32, q: u32, k: u32) -> u32
-    requires { ⌜ (at ≤ 65536) × (word (now t) at ≤ 1024) × (4 * (at + 3 + 3 * (word (now t) at + cond (forcesAt (now t) at m) 2 1)) ≤ length (now t)) ⌝ }
+    requires { ⌜ (at ≤ mostWords) × (word (now t) at ≤ 1024) × (4 * (at + heading + width * (word (now t) at + cond (forcesAt (now t) at m) 2 1)) ≤ length (now t)) ⌝ }
     ensures { λ r. ⌜ (r ≡ cond (forcesAt (now (t .entry)) at m) 1 0) × (now (t .exit) ≡ withReceipt (now (t .entry)) at m q k) ⌝ }
 {
     let x = xdr::get(t, at + 1);
@@ -46,7 +61,7 @@ pub fn add_receipt(t: &mut [u8], at: usize, m: u32, q: u32, k: u32) -> u32
 
 // Writes an answer of two words.
 pub fn answer(area: &mut [u8], x: u32, y: u32)
-    requires { ⌜ length (now area) ≡ 8 ⌝ }
+    requires { ⌜ 8 ≤ length (now area) ⌝ }
     ensures { λ _. ⌜ now (area .exit) ≡ putWords (now (area .entry)) 0 (x ∷ y ∷ []) ⌝ }
 {
     xdr::put(area, 0, x);

@@ -95,13 +95,13 @@ in-range n E ok =
     }
 
 -- a lent table that meets none of its own rows
-pub record Whole (t : List ℕ) : Type 0 where
+pub record Valid (t : List ℕ) : Type 0 where
   pub range : InRange (word t 0) (word t 1)
   pub is : IsTable (word t 0) (word t 1) t
 
-pub whole : (t : List ℕ) → Bytes t → NoneMet (tableRows t) → Whole t
+pub valid : (t : List ℕ) → Bytes t → NoneMet (tableRows t) → Valid t
 unfolding wellLaid
-whole t b z =
+valid t b z =
     let n = word t 0 in
     let E = word t 1 in
     record {
@@ -116,7 +116,7 @@ whole t b z =
     }
 
 -- Where a call is accepted, on any bytes, the table that the rules say is the one with the call's records stored into it.
-pub step-stores : (t : List ℕ) → Whole t → (p : ℕ) (call : Call) → Accepted (word t 0) (word t 1) (decoded t) p call
+pub step-stores : (t : List ℕ) → Valid t → (p : ℕ) (call : Call) → Accepted (word t 0) (word t 1) (decoded t) p call
     → layout (word t 0) (word t 1) (stepped (decoded t) p call)
     ≡ stored (word t 1) t p (history (decoded t) p) (added (history (decoded t) p) call (carries (decoded t) call))
 step-stores t W p call A =

@@ -18,7 +18,7 @@ use Rattle.records.proofs.Rows.{none-met, split-zero, first-unmet}
 use Rattle.records.proofs.Steps.{Accepted, accepted-met}
 use Rattle.tables.proofs.Laid.{product, sends-length}
 use Rattle.tables.proofs.WellLaid.{decoded-at, decoded-words, decoded-short}
-use Rattle.tables.proofs.OneCall.{in-range, Whole, whole, table-legal, legal-number, legal-carried}
+use Rattle.tables.proofs.OneCall.{in-range, Valid, valid, table-legal, legal-number, legal-carried}
 
 -- ---- outcomes
 
@@ -46,7 +46,7 @@ pub record Head (t : List ℕ) (p E at : ℕ) : Type 0 where
   pub low : word t (at + 1) ≤ 16384
   pub few : word t (at + 2) ≤ 1024
 
-pub head : (t : List ℕ) → Whole t → (p : ℕ) → p < word t 0 → {E at : ℕ} → E ≡ word t 1 → at ≡ start E p → Head t p E at
+pub head : (t : List ℕ) → Valid t → (p : ℕ) → p < word t 0 → {E at : ℕ} → E ≡ word t 1 → at ≡ start E p → Head t p E at
 head t W p lt {E} {at} e s = rw (s, e) here
   where
     n : ℕ
@@ -92,7 +92,7 @@ head t W p lt {E} {at} e s = rw (s, e) here
         }
 
 -- what a message carries
-pub carried-low : (t : List ℕ) → Whole t → (q k : ℕ) → carried (history (decoded t) q) k ≤ 16384
+pub carried-low : (t : List ℕ) → Valid t → (q k : ℕ) → carried (history (decoded t) q) k ≤ 16384
 carried-low t W q k =
     le-trans (legal-carried (word t 0) (word t 1) q (history (decoded t) q) k (table-legal (word t 0) (word t 1) t (W .is) q))
     (product (word t 0) (word t 1) (W .range .processes) (W .range .records))
@@ -100,7 +100,7 @@ carried-low t W q k =
 -- ---- a step that meets no row
 
 pub record Passed (t : List ℕ) (p : ℕ) (call : Call) (len : ℕ) : Type 0 where
-  pub table : Whole t
+  pub table : Valid t
   pub accepted : Accepted (word t 0) (word t 1) (decoded t) p call
   pub area : len ≡ areaLength call
 
@@ -112,7 +112,7 @@ passed t b p call len e =
     let s = decoded t in
     let z = split-zero (tableRows t) (stepRows n E s p call len) tt e in
     record {
-      table = whole t b (z .0);
+      table = valid t b (z .0);
       accepted = accepted-met n E s p call len (z .1);
       area = eqb-true len (areaLength call) (not-false (eqb len (areaLength call))
           (first-unmet 3 (not (eqb len (areaLength call))) (row 5 (leb n p) ∷ laterRows n E s p call) (z .1)));

@@ -2,7 +2,7 @@ use lib.Count.{ones}
 use lib.ListN.{getD}
 use borrow.Author.Needs.{needs}
 use Rattle.xdr.specs.Words.{putEach}
-use Rattle.failure.proofs.Laws.{then-two}
+use Rattle.failure.proofs.FailureLine.{then-two}
 use Rattle.failure.proofs.answer.Statement.{statement}
 use Rattle.failure.proofs.answer.Tie as tie
 

@@ -3,9 +3,9 @@ use mathlib.Core.Path.{_≡_, refl, ap, _∙_}
 use native.Mathlib.Omega.{arith}
 use borrow.Author.Needs.{needs}
 use Rattle.lowering.proofs.Steps.{section}
-use Rattle.rules.specs.Lines.{backBelow}
+use Rattle.rules.specs.Lines.{maskBelow}
 use Rattle.rules.specs.Table.{decoded}
-use Rattle.failure.proofs.Laws.{Found, found-next}
+use Rattle.failure.proofs.FailureLine.{below, Found, found-next}
 use Rattle.failure.proofs.back.Statement.{statement}
 use Rattle.failure.proofs.back.Tie as tie
 
@@ -87,7 +87,7 @@ returns c =
     let a = c3 .args in
     let s = c .before .loop in
     let e : s .p ≡ a .n = omega arith in
-    s .inv .0 .0 ∙ ap (backBelow (decoded (a .t .now)) (a .t4)) e
+    s .inv .0 .0 ∙ ap (maskBelow (below (decoded (a .t .now)) (a .t4))) e
 
 pub back-spec : {M : Type 1} → statement M
 back-spec =

@@ -2,7 +2,7 @@ use mathlib.Core.Path.{refl}
 use native.Mathlib.Omega.{arith}
 use borrow.Author.Needs.{needs}
 use Rattle.tables.proofs.Outcomes.{long}
-use Rattle.failure.proofs.Laws.{asked, failed-refused, failed-done}
+use Rattle.failure.proofs.FailureLine.{asked, failed-refused, failed-done}
 use Rattle.failure.proofs.failed.Statement.{statement}
 use Rattle.failure.proofs.failed.Tie as tie
 
@@ -84,8 +84,8 @@ returns-2 c =
     let c12 = c11 .before in
     let a = c12 .args in
     failed-done (a .table .now) (a .area .now) (λ i. omega (arith, c11 .shared-slice-known .given i))
-    (λ i. omega (arith, c10 .slice-known .given i)) (a .mask) (c9 .failed-row .ensures) (c8 .if1 .left) (c7 .get-usize .ensures .0)
-    (c6 .get-usize2 .ensures .0) (c5 .positions .result) (c5 .positions .ensures .0) (c5 .positions .ensures .1) (c3 .back .ensures)
+    (a .mask) (c9 .failed-row .ensures) (c8 .if1 .left) (c7 .get-usize .ensures .0)
+    (c6 .get-usize2 .ensures .0) (c5 .positions .result) (c5 .positions .ensures .0) (c3 .back .ensures)
     (c .before .before .answer .ensures)
 
 pub failed-spec : {M : Type 1} → statement M

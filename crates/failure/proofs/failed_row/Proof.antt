@@ -1,7 +1,7 @@
 use native.Mathlib.Omega.{arith}
 use borrow.Author.Needs.{needs}
 use Rattle.tables.proofs.Outcomes.{long, sixteen}
-use Rattle.failure.proofs.Laws.{failed-table, failed-area, failed-mask, failed-none}
+use Rattle.failure.proofs.FailureLine.{failed-table, failed-area, failed-mask, failed-none}
 use Rattle.failure.proofs.failed_row.Statement.{statement}
 use Rattle.failure.proofs.failed_row.Tie as tie
 

@@ -1,6 +1,6 @@
 use native.Mathlib.Omega.{arith}
 use borrow.Author.Needs.{needs}
-use Rattle.failure.proofs.Laws.{line-positions}
+use Rattle.failure.proofs.FailureLine.{line-positions}
 use Rattle.failure.proofs.positions.Statement.{statement}
 use Rattle.failure.proofs.positions.Tie as tie
 

@@ -1,6 +1,6 @@
 use native.Mathlib.Omega.{arith}
 use borrow.Author.Needs.{needs}
-use Rattle.lines.proofs.Laws.{asked, counts, line-refused, line-done}
+use Rattle.lines.proofs.NumberedLine.{asked, counts, line-refused, line-done}
 use Rattle.lines.proofs.line.Statement.{statement}
 use Rattle.lines.proofs.line.Tie as tie
 
@@ -66,7 +66,7 @@ returns-2 c =
     let c10 = c9 .before in
     let a = c10 .args in
     let t = a .table .now in
-    line-done t (a .area .now) (λ i. omega (arith, c9 .shared-slice-known .given i)) (λ i. omega (arith, c8 .slice-known .given i))
+    line-done t (a .area .now) (λ i. omega (arith, c9 .shared-slice-known .given i))
     (a .number) (c7 .line-row .ensures) (c6 .if1 .left) (c5 .get-usize .ensures .0) (c4 .get-usize2 .ensures .0)
     (c .before .before .fill .ensures)
 

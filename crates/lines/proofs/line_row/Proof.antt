@@ -1,7 +1,7 @@
 use native.Mathlib.Omega.{arith}
 use borrow.Author.Needs.{needs}
 use Rattle.tables.proofs.Outcomes.{long}
-use Rattle.lines.proofs.Laws.{line-table, line-area, line-none}
+use Rattle.lines.proofs.NumberedLine.{line-table, line-area, line-none}
 use Rattle.lines.proofs.line_row.Statement.{statement}
 use Rattle.lines.proofs.line_row.Tie as tie
 

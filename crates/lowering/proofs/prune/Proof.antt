@@ -2,10 +2,10 @@ use Prim.Native.Nat.{_-_, _≤_}
 use mathlib.Core.Path.{_≡_, _∙_, subst}
 use native.Mathlib.Omega.{arith}
 use borrow.Author.Needs.{needs}
-use Rattle.lowering.specs.Lowering.{NoneLost, Pruned}
+use Rattle.lowering.specs.Lowering.{NoneAlways, Pruned}
 use Rattle.rules.specs.Table.{decoded}
 use Rattle.lowering.proofs.Cuts.{lowered-refl}
-use Rattle.lowering.proofs.Notes.{lost-step}
+use Rattle.lowering.proofs.Notes.{always-step}
 use Rattle.lowering.proofs.Steps.{view, pruned-next}
 use Rattle.lowering.proofs.prune.Statement.{statement}
 use Rattle.lowering.proofs.prune.Tie as tie
@@ -88,7 +88,7 @@ cast-position c =
     let c12 = c11 .before in
     let a = c12 .args in
     let s = c7 .loop in
-    let u = lost-step (a .t .now) (λ i. omega (arith, c11 .shared-slice-known .given i)) (c12 .pre .0) (s .p) (c6 .loop-test .taken)
+    let u = always-step (a .t .now) (λ i. omega (arith, c11 .shared-slice-known .given i)) (c12 .pre .0) (s .p) (c6 .loop-test .taken)
     (c5 .start .ensures .0) (s .position) (s .sends) (s .inv .0 .0) (a .to .now) (c12 .pre .1) (c12 .pre .2)
     (c4 .wide .ensures) (c3 .first-unsent .ensures) _ _ (c .before .back .ensures .0) (c .before .back .ensures .1) in
     omega (arith, u .1)
@@ -113,7 +113,7 @@ cast-sends c =
     let c13 = c12 .before in
     let a = c13 .args in
     let s = c8 .loop in
-    let u = lost-step (a .t .now) (λ i. omega (arith, c12 .shared-slice-known .given i)) (c13 .pre .0) (s .p) (c7 .loop-test .taken)
+    let u = always-step (a .t .now) (λ i. omega (arith, c12 .shared-slice-known .given i)) (c13 .pre .0) (s .p) (c7 .loop-test .taken)
     (c6 .start .ensures .0) (s .position) (s .sends) (s .inv .0 .0) (a .to .now) (c13 .pre .1) (c13 .pre .2)
     (c5 .wide .ensures) (c4 .first-unsent .ensures) _ _ (c .before .before .back .ensures .0) (c .before .before .back .ensures .1) in
     omega (arith, u .2)
@@ -144,7 +144,7 @@ loop-again c =
     let c13 = c12 .before in
     let a = c13 .args in
     let s = c8 .loop in
-    let u = lost-step (a .t .now) (λ i. omega (arith, c12 .shared-slice-known .given i)) (c13 .pre .0) (s .p) (c7 .loop-test .taken)
+    let u = always-step (a .t .now) (λ i. omega (arith, c12 .shared-slice-known .given i)) (c13 .pre .0) (s .p) (c7 .loop-test .taken)
     (c6 .start .ensures .0) (s .position) (s .sends) (s .inv .0 .0) (a .to .now) (c13 .pre .1) (c13 .pre .2)
     (c5 .wide .ensures) (c4 .first-unsent .ensures) _ _ (c .before .before .back .ensures .0) (c .before .before .back .ensures .1) in
     (pruned-next (decoded (a .t .now)) (a .cut .position) (s .position) (s .sends) _ _ (a .n) (s .p) (s .inv .0) (u .0), omega arith)
@@ -155,7 +155,7 @@ returns c =
     let a = c6 .args in
     let s = c .before .loop in
     let e : s .p ≡ a .n = omega arith in
-    (s .inv .0 .0, s .inv .0 .1, subst (NoneLost (decoded (a .t .now)) (s .position)) e (s .inv .0 .2))
+    (s .inv .0 .0, s .inv .0 .1, subst (NoneAlways (decoded (a .t .now)) (s .position)) e (s .inv .0 .2))
 
 pub prune-spec : {M : Type 1} → statement M
 prune-spec =

@@ -11,13 +11,13 @@ returns : tie.Need-returns
 returns c =
     let c3 = c .before .before .before in
     let a = c3 .args in
-    pair-act (a .t .now) (a .len) (a .p) (a .q) (c .before .act-row .ensures) (c .if1 .taken)
+    pair-act (a .t .now) (a .len) (a .want) (a .p) (a .q) (c .before .act-row .ensures) (c .if1 .taken)
 
 get-usize-requires : tie.Need-get-usize-requires
 get-usize-requires c κs =
     let c3 = c .before .before .before in
     let a = c3 .args in
-    let w = acts (a .t .now) (λ i. omega (arith, c .before .before .shared-slice-known .given i)) (a .len) 8 (a .p)
+    let w = acts (a .t .now) (λ i. omega (arith, c .before .before .shared-slice-known .given i)) (a .len) (a .want) (a .p)
     (c .before .act-row .ensures) (c .if1 .left) in
     omega (arith, w .table .is .whole)
 
@@ -26,7 +26,7 @@ returns-2 c =
     let c3 = c .before .before .before in
     let c5 = c3 .before .before in
     let a = c5 .args in
-    pair-other (a .t .now) (a .len) (a .p) (a .q) (c3 .act-row .ensures) (c .before .before .if1 .left)
+    pair-other (a .t .now) (a .len) (a .want) (a .p) (a .q) (c3 .act-row .ensures) (c .before .before .if1 .left)
     (c .before .get-usize .ensures .0) (c .if2 .taken)
 
 returns-3 : tie.Need-returns-3
@@ -34,7 +34,7 @@ returns-3 c =
     let c3 = c .before .before .before in
     let c5 = c3 .before .before in
     let a = c5 .args in
-    pair-none (a .t .now) (a .len) (a .p) (a .q) (c3 .act-row .ensures) (c .before .before .if1 .left)
+    pair-none (a .t .now) (a .len) (a .want) (a .p) (a .q) (c3 .act-row .ensures) (c .before .before .if1 .left)
     (c .before .get-usize .ensures .0) (c .if2 .left)
 
 pub pair-row-spec : {M : Type 1} → statement M

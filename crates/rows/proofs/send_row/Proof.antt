@@ -19,7 +19,7 @@ get-usize-requires : tie.Need-get-usize-requires
 get-usize-requires c κs =
     let c3 = c .before .before .before in
     let a = c3 .args in
-    let w = pairs (a .t .now) (λ i. omega (arith, c .before .before .shared-slice-known .given i)) (a .len) (a .p) (a .q)
+    let w = pairs (a .t .now) (λ i. omega (arith, c .before .before .shared-slice-known .given i)) (a .len) 8 (a .p) (a .q)
     (c .before .pair-row .ensures) (c .if1 .left) in
     omega (arith, w .acting .table .is .whole)
 
@@ -28,7 +28,7 @@ start-requires c κs =
     let c3 = c .before .before .before in
     let c4 = c3 .before in
     let a = c4 .args in
-    let w = pairs (a .t .now) (λ i. omega (arith, c3 .shared-slice-known .given i)) (a .len) (a .p) (a .q)
+    let w = pairs (a .t .now) (λ i. omega (arith, c3 .shared-slice-known .given i)) (a .len) 8 (a .p) (a .q)
     (c .before .before .pair-row .ensures) (c .before .if1 .left) in
     omega (arith, w .acting .below, w .acting .table .range .processes, w .acting .table .range .records)
 
@@ -38,7 +38,7 @@ get-usize-requires-2 c κs =
     let c4 = c3 .before in
     let c5 = c4 .before in
     let a = c5 .args in
-    let w = pairs (a .t .now) (λ i. omega (arith, c4 .shared-slice-known .given i)) (a .len) (a .p) (a .q) (c3 .pair-row .ensures)
+    let w = pairs (a .t .now) (λ i. omega (arith, c4 .shared-slice-known .given i)) (a .len) 8 (a .p) (a .q) (c3 .pair-row .ensures)
     (c .before .before .if1 .left) in
     let h = head (a .t .now) (w .acting .table) (a .p) (w .acting .below) (c .before .get-usize .ensures .0) (c .start .ensures .0) in
     omega (arith, h .inside)
@@ -54,7 +54,7 @@ returns-2 c =
     let c6 = c5 .before in
     let c7 = c6 .before in
     let a = c7 .args in
-    let w = pairs (a .t .now) (λ i. omega (arith, c6 .shared-slice-known .given i)) (a .len) (a .p) (a .q) (c5 .pair-row .ensures)
+    let w = pairs (a .t .now) (λ i. omega (arith, c6 .shared-slice-known .given i)) (a .len) 8 (a .p) (a .q) (c5 .pair-row .ensures)
     (c4 .if1 .left) in
     let h = head (a .t .now) (w .acting .table) (a .p) (w .acting .below) (c3 .get-usize .ensures .0)
     (c .before .before .start .ensures .0) in
@@ -69,7 +69,7 @@ returns-3 c =
     let c6 = c5 .before in
     let c7 = c6 .before in
     let a = c7 .args in
-    let w = pairs (a .t .now) (λ i. omega (arith, c6 .shared-slice-known .given i)) (a .len) (a .p) (a .q) (c5 .pair-row .ensures)
+    let w = pairs (a .t .now) (λ i. omega (arith, c6 .shared-slice-known .given i)) (a .len) 8 (a .p) (a .q) (c5 .pair-row .ensures)
     (c4 .if1 .left) in
     let h = head (a .t .now) (w .acting .table) (a .p) (w .acting .below) (c3 .get-usize .ensures .0)
     (c .before .before .start .ensures .0) in

@@ -68,7 +68,7 @@ answer-requires c κs =
     let t = a .table .now in
     let R = ready t (a .area .now) (λ i. omega (arith, c12 .slice-known .given i)) (a .p) (receipt (a .q) (a .k))
     (c9 .receipt-row .ensures .0) (c8 .if1 .left) (c6 .get-usize .ensures .0) (c5 .start .ensures .0) in
-    R .area
+    omega (arith, R .area)
 
 same-length-2 : tie.Need-same-length-2
 same-length-2 c = search needs
@@ -88,7 +88,7 @@ returns-2 c =
     let c16 = c15 .before in
     let a = c16 .args in
     let t = a .table .now in
-    receipt-done t (a .area .now) (λ i. omega (arith, c15 .slice-known .given i)) (λ i. omega (arith, c14 .slice-known2 .given i))
+    receipt-done t (a .area .now) (λ i. omega (arith, c15 .slice-known .given i))
     (a .p) (a .q) (a .k) (c9 .get-usize .ensures .0) (c8 .start .ensures .0) (c12 .receipt-row .ensures .0) (c11 .if1 .left)
     (c12 .receipt-row .ensures .1 (c11 .if1 .left)) (c6 .add-receipt .ensures .0) (c6 .add-receipt .ensures .1)
     (c .before .before .answer .ensures)

@@ -133,7 +133,7 @@ returns-2 c =
     let c20 = c19 .before in
     let a = c20 .args in
     let t = a .table .now in
-    send-done t (a .area .now) (λ i. omega (arith, c19 .slice-known .given i)) (λ i. omega (arith, c18 .slice-known2 .given i))
+    send-done t (a .area .now) (λ i. omega (arith, c19 .slice-known .given i))
     (a .p) (c13 .get-usize .ensures .0) (c12 .start .ensures .0) (c10 .get .ensures) (c8 .get2 .ensures) (a .q) (c16 .send-row .ensures)
     (c15 .if1 .left) (c6 .add-record .ensures) (c .before .before .answer .ensures)
 

@@ -1,7 +1,7 @@
 -- The rows of a failure line, the mask of the processes that go back, and the outcome from its parts.
 use mathlib.Core.Path.{_≡_, refl, sym, ap, _∙_, subst}
 use mathlib.Core.Logic.{_≢_}
-use mathlib.Core.Bool.{cond}
+use mathlib.Core.Bool.{cond, Bool}
 use mathlib.Core.List.{List, [], _∷_, _++_}
 use Prim.Native.Nat.{ℕ, zero, suc, _+_, _*_, _/_, _^_, _≤_, _<_}
 use native.Mathlib.Nat.{le-trans, pow-suc, pow-le-pow-right, div-eq-of-lt, div-lt-iff-lt-mul}
@@ -13,22 +13,22 @@ use lib.ListN.{length, getD, length-append, List·getD-append}
 use lib.Seq.{getD-append-add}
 use lib.Count.{ones, ones-le}
 use borrow.Author.Tests.{eqb-true, not-false, eq-eqb, ne-eqb, le-leb, lt-leb}
-use Rattle.xdr.specs.Words.{word, bytes, putWord, putEach}
+use Rattle.xdr.specs.Words.{word, bytes, putWord, putEach, putWords}
 use Rattle.xdr.proofs.Words.{Bytes, Small, small-append}
 use Rattle.xdr.proofs.Puts.{each-same, each-put}
 use Rattle.rules.specs.Records.{State, history}
 use Rattle.rules.specs.Table.{start, decoded}
-use Rattle.rules.specs.Lines.{backBelow, backMask}
+use Rattle.rules.specs.Lines.{maskBelow, backMask}
 use Rattle.rules.specs.FailureLine.{failureLine}
 use Rattle.rules.specs.Calls.{outcome, first, tableRows, failureRows, failureAnswer, failedOn}
 use Rattle.records.proofs.Rows.{none-met, first-none, split-zero, judged-stop, judged-done, stopped, going}
 use Rattle.records.proofs.FailureLines.{failure-line}
 use Rattle.records.proofs.Masks.{two-positive, mask-lt}
 use Rattle.tables.proofs.WellLaid.{decoded-count, decoded-short}
-use Rattle.tables.proofs.OneCall.{whole}
-use Rattle.lowering.specs.Lowering.{Laid, Counted, Over, Lowered, NoneLost, NoneLate}
-use Rattle.lowering.proofs.Cuts.{lost-lowered, none-clean, over-line}
-use Rattle.lowering.proofs.Steps.{is-whole, processes, section}
+use Rattle.tables.proofs.OneCall.{valid}
+use Rattle.lowering.specs.Lowering.{Laid, Counted, Over, Lowered, NoneAlways, NoneLate}
+use Rattle.lowering.proofs.Cuts.{always-lowered, none-clean, over-line}
+use Rattle.lowering.proofs.Steps.{is-valid, processes, section}
 
 -- ---- rows
 
@@ -66,7 +66,7 @@ pub asked : (t a : List ℕ) (mask : ℕ) → Bytes t → {r n E : ℕ} → r �
 asked t a mask b e z i j =
     let s = split-zero (tableRows t) (failureRows (word t 0) mask (length a)) tt (sym e ∙ z) in
     let m = none-met (failureRows (word t 0) mask (length a)) tt (s .1) in
-    let W = whole t b (s .0) in
+    let W = valid t b (s .0) in
     let g = W .range .processes in
     let h = W .range .records in
     let l = eqb-true (length a) (4 * word t 0 + 8) (not-false (eqb (length a) (4 * word t 0 + 8)) (m .0)) in
@@ -75,23 +75,27 @@ asked t a mask b e z i j =
 -- ---- positions
 
 pub line-positions : (t : List ℕ) → Bytes t → {n E : ℕ} → Laid t n E → (mask : ℕ) {P Q R S : List ℕ} → Over mask (decoded t) P
-    → Lowered (decoded t) P Q → NoneLost (decoded t) Q n → Counted (decoded t) R S → Lowered (decoded t) Q R → NoneLate (decoded t) R S n
+    → Lowered (decoded t) P Q → NoneAlways (decoded t) Q n → Counted (decoded t) R S → Lowered (decoded t) Q R → NoneLate (decoded t) R S n
     → ((p : ℕ) → p < n → (getD R p 0 ≡ getD (failureLine mask (decoded t)) p 0)) × ((p : ℕ) → p < n → getD R p 0 ≤ 1024)
 line-positions t b {n} {E} L mask {P} {Q} {R} {S} O a none C d late-none =
     let s = decoded t in
     let m = processes t b L in
     let few = L .3 in
-    let W = is-whole t b L in
-    let clean = none-clean s R S C (omega arith) (lost-lowered s Q R d (rw m none)) (rw m late-none) in (
+    let W = is-valid t b L in
+    let clean = none-clean s R S C (omega arith) (always-lowered s Q R d (rw m none)) (rw m late-none) in (
       λ p lt. over-line mask s R (d .over mask (a .over mask O)) clean p (omega arith),
       λ p lt. le-trans (C .within p (omega arith)) (le-trans (decoded-short (word t 0) (word t 1) t (W .is) p) (W .range .records)),
     )
 
 -- ---- the mask
 
+-- process p is below its count
+abbrev pub below : State → List ℕ → ℕ → Bool
+below s P p = ltb (getD P p 0) (length (history s p))
+
 -- what is found of the first p processes
 abbrev pub Found : State → List ℕ → ℕ → ℕ → ℕ → Type 0
-Found s P p mask bit = (mask ≡ backBelow s P p) × (bit ≡ 2 ^ p) × (mask < bit) × (bit ≤ 65536)
+Found s P p mask bit = (mask ≡ maskBelow (below s P) p) × (bit ≡ 2 ^ p) × (mask < bit) × (bit ≤ 65536)
 
 pub found-next : (t : List ℕ) → Bytes t → {n E : ℕ} → Laid t n E → (P : List ℕ) (p : ℕ) → p < n → {at c mask bit x y : ℕ}
     → at ≡ start E p → c ≡ word t at → Found (decoded t) P p mask bit
@@ -99,10 +103,10 @@ pub found-next : (t : List ℕ) → Bytes t → {n E : ℕ} → Laid t n E → (
 found-next t b {n} {E} L P p lt {at} {c} {mask} {bit} {x} i z (a, d, f, g) m e =
     let s = decoded t in
     let k : c ≡ length (history s p) = z ∙ section t b L p lt i .count in
-    let u : mask + x ≡ backBelow s P (suc p) = rw (a, e, m, k, d) in
+    let u : mask + x ≡ maskBelow (below s P) (suc p) = rw (a, e, m, k, d) in
     let v : bit * 2 ≡ 2 ^ suc p = rw (pow-suc 2 p, d) in
     let few = L .3 in
-    let w = mask-lt s P (suc p) in
+    let w = mask-lt (below s P) (suc p) in
     let most = pow-le-pow-right {n = 2} (omega arith) {i = suc p} {j = 16} (omega arith) in
     (rw (add-one p) u, rw (add-one p) v, omega arith, omega arith)
 
@@ -112,22 +116,18 @@ pub then-two : (a : List ℕ) (n x y : ℕ) {u v w : List ℕ} → u ≡ a → v
     → w ≡ putWord (putWord a n x) (n + 1) y
 then-two a n x y e f g = rw (g, f, e)
 
-back-same : (s : State) (P Q : List ℕ) (n : ℕ) → ((p : ℕ) → p < n → getD P p 0 ≡ getD Q p 0) → backBelow s P n ≡ backBelow s Q n
-back-same s P Q zero e = refl
-back-same s P Q (suc n) e = rw (back-same s P Q n (λ p lt. e p (omega arith)), e n (omega arith))
+below-same : (s : State) (P Q : List ℕ) (n : ℕ) → ((p : ℕ) → p < n → getD P p 0 ≡ getD Q p 0) → maskBelow (below s P) n ≡ maskBelow (below s Q) n
+below-same s P Q zero e = refl
+below-same s P Q (suc n) e = rw (below-same s P Q n (λ p lt. e p (omega arith)), e n (omega arith))
 
 pub failed-refused : (t a : List ℕ) (mask : ℕ) {r : ℕ} → r ≡ first (tableRows t ++ failureRows (word t 0) mask (length a)) → r ≢ 0
     → outcome r t a ≡ failedOn t a mask
 unfolding failedOn
 failed-refused t a mask e ne = judged-stop t a t (failureAnswer mask (decoded t)) e ne
 
-small-all : (ws : List ℕ) → ((i : ℕ) → i < length ws → getD ws i 0 ≤ 1024) → Small ws
-small-all [] f = tt
-small-all (w ∷ ws) f = (let l = f 0 (omega arith) in omega arith, small-all ws (λ i lt. f (suc i) (omega arith)))
-
-module _ (t a : List ℕ) (bt : Bytes t) (ba : Bytes a) (mask : ℕ) {r n E : ℕ} (e : r ≡ first (tableRows t ++ failureRows (word t 0) mask (length a))) (z : r ≡ 0)
+module _ (t a : List ℕ) (bt : Bytes t) (mask : ℕ) {r n E : ℕ} (e : r ≡ first (tableRows t ++ failureRows (word t 0) mask (length a))) (z : r ≡ 0)
     (i : n ≡ word t 0) (j : E ≡ word t 1) (P : List ℕ) (at : (p : ℕ) → p < n → getD P p 0 ≡ getD (failureLine mask (decoded t)) p 0)
-    (small : (p : ℕ) → p < n → getD P p 0 ≤ 1024) {m : ℕ} (is : m ≡ backBelow (decoded t) P n) where
+    {m : ℕ} (is : m ≡ maskBelow (below (decoded t) P) n) where
   abbrev s : State
   s = decoded t
 
@@ -140,8 +140,8 @@ module _ (t a : List ℕ) (bt : Bytes t) (ba : Bytes a) (mask : ℕ) {r n E : �
   size : length cut ≡ n
   size = failure-line mask s .permit .size ∙ many
 
-  back : m ≡ backMask s cut
-  back = is ∙ back-same s P cut n at ∙ ap (backBelow s cut) (sym many)
+  back : m ≡ backMask mask s cut
+  back = is ∙ below-same s P cut n at ∙ ap (maskBelow (below s cut)) (sym many)
 
   abbrev ws : List ℕ
   ws = cut ++ (m ∷ ones m ∷ [])
@@ -153,22 +153,10 @@ module _ (t a : List ℕ) (bt : Bytes t) (ba : Bytes a) (mask : ℕ) {r n E : �
   after : (k : ℕ) → getD ws (n + k) 0 ≡ getD (m ∷ ones m ∷ []) k 0
   after k = ap (λ (x : ℕ). getD ws (x + k) 0) (sym size) ∙ getD-append-add cut (m ∷ ones m ∷ []) k 0
 
-  words-small : Small ws
-  words-small =
-      let A = asked t a mask bt e z i j in
-      let few = A .laid .3 in
-      let l = mask-lt s P n in
-      let w = pow-le-pow-right {n = 2} (omega arith) {i = n} {j = 16} few in
-      let o = ones-le 16 m (omega arith) in
-      small-append cut (m ∷ ones m ∷ [])
-      (small-all cut (λ k lt. let h : k < n = (let y = size in omega arith) in subst (λ (x : ℕ). x ≤ 1024) (at k h) (small k h)))
-      (omega arith, (omega arith, tt))
-
   pub failed-done : {b : List ℕ} → b ≡ putWord (putWord (putEach a (λ p. getD P p 0) n) n m) (n + 1) (ones m)
       → outcome 0 t b ≡ failedOn t a mask
   unfolding failedOn failureAnswer putEach
   failed-done {b} w =
-      let A = asked t a mask bt e z i j in
       let two : n + 1 ≡ suc n = add-one n in
       let x : m ≡ getD ws n 0 = sym (ap (λ (k : ℕ). getD ws k 0) (let y : n ≡ n + 0 = omega arith in y) ∙ after 0) in
       let y : ones m ≡ getD ws (suc n) 0 = sym (ap (λ (k : ℕ). getD ws k 0) (sym two) ∙ after 1) in
@@ -180,6 +168,5 @@ module _ (t a : List ℕ) (bt : Bytes t) (ba : Bytes a) (mask : ℕ) {r n E : �
       ∙ ap (λ (k : ℕ). putWord (putWord (putEach a g n) n (g n)) k (g (suc n))) two
       in
       judged-done t a t (failureAnswer mask s) (sym e ∙ z) refl
-      (all ∙ each-put a ws g (suc (suc n)) ba words-small
-      (let l = length-append cut (m ∷ ones m ∷ []) in let y = size in omega arith) (let l = A .area in omega arith) (λ k lt. refl)
-      ∙ ap (λ (x : ℕ). bytes (cut ++ (x ∷ ones x ∷ []))) back)
+      (all ∙ each-put a ws g (suc (suc n)) (let l = length-append cut (m ∷ ones m ∷ []) in let y = size in omega arith) (λ k lt. refl)
+      ∙ ap (λ (x : ℕ). putWords a 0 (cut ++ (x ∷ ones x ∷ []))) back)

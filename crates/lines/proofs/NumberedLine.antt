@@ -18,7 +18,7 @@ use Rattle.rules.specs.Calls.{outcome, first, tableRows, lineRows, lineOn}
 use Rattle.records.proofs.Rows.{none-met, split-zero, judged-stop, judged-done, stopped, going}
 use Rattle.records.proofs.NumberedLines.{numbered-le, position}
 use Rattle.tables.proofs.WellLaid.{decoded-at, decoded-length, decoded-short}
-use Rattle.tables.proofs.OneCall.{Whole, whole}
+use Rattle.tables.proofs.OneCall.{Valid, valid}
 use Rattle.tables.proofs.Outcomes.{head}
 
 -- ---- rows
@@ -34,24 +34,20 @@ module _ (t : List ℕ) (len : ℕ) {r : ℕ} (e : r ≡ first (tableRows t)) wh
     pub line-none : len ≡ 4 * n → 0 ≡ first (tableRows t ++ lineRows (word t 0) len)
     line-none l = sym (going (tableRows t) (lineRows (word t 0) len) tt e z ∙ rw (← i, eq-eqb len (4 * n) l))
 
--- ---- the whole line
-
-small-line : (N : ℕ) (s : State) → ((p : ℕ) → length (history s p) ≤ 1024) → Small (numberedLine N s)
-small-line N [] short = tt
-small-line N (h ∷ s) short = (let a = numbered-le N h in let b = short 0 in omega arith, small-line N s (λ p. short (suc p)))
+-- ---- outcome
 
 -- a line that meets no row
 pub record Asked (t a : List ℕ) : Type 0 where
-  pub table : Whole t
+  pub table : Valid t
   pub area : length a ≡ 4 * word t 0
 
 pub asked : (t a : List ℕ) → Bytes t → {r : ℕ} → r ≡ first (tableRows t ++ lineRows (word t 0) (length a)) → r ≡ 0 → Asked t a
 asked t a b e z =
     let s = split-zero (tableRows t) (lineRows (word t 0) (length a)) tt (sym e ∙ z) in
     let m = none-met (lineRows (word t 0) (length a)) tt (s .1) in
-    record { table = whole t b (s .0); area = eqb-true (length a) (4 * word t 0) (not-false (eqb (length a) (4 * word t 0)) (m .0)) }
+    record { table = valid t b (s .0); area = eqb-true (length a) (4 * word t 0) (not-false (eqb (length a) (4 * word t 0)) (m .0)) }
 
-pub counts : (t : List ℕ) → Whole t → {n E : ℕ} → n ≡ word t 0 → E ≡ word t 1 → (p : ℕ) → p < n → word t (start E p) ≤ E
+pub counts : (t : List ℕ) → Valid t → {n E : ℕ} → n ≡ word t 0 → E ≡ word t 1 → (p : ℕ) → p < n → word t (start E p) ≤ E
 counts t W i j p lt = head t W p (omega arith) j refl .short
 
 pub line-refused : (t a : List ℕ) (N : ℕ) {r : ℕ} → r ≡ first (tableRows t ++ lineRows (word t 0) (length a)) → r ≢ 0
@@ -59,19 +55,17 @@ pub line-refused : (t a : List ℕ) (N : ℕ) {r : ℕ} → r ≡ first (tableRo
 unfolding lineOn
 line-refused t a N e ne = judged-stop t a t (numberedLine N (decoded t)) e ne
 
-pub line-done : (t a : List ℕ) → Bytes t → Bytes a → (N : ℕ) {r n E : ℕ} {b : List ℕ}
+pub line-done : (t a : List ℕ) → Bytes t → (N : ℕ) {r n E : ℕ} {b : List ℕ}
     → r ≡ first (tableRows t ++ lineRows (word t 0) (length a)) → r ≡ 0 → n ≡ word t 0 → E ≡ word t 1
     → b ≡ putEach a (λ p. numbered N (sectionAt (word t) E p)) n → outcome 0 t b ≡ lineOn t a N
 unfolding lineOn
-line-done t a bt ba N {r} {n} {E} e z i j w =
+line-done t a bt N {r} {n} {E} e z i j w =
     let A = asked t a bt e z in
     let W = A .table in
     let T = W .is in
     let s = decoded t in
     let d = decoded-length (word t 0) (word t 1) t T in
     judged-done t a t (numberedLine N s) (sym e ∙ z) refl
-    (w ∙ each-put a (numberedLine N s) (λ p. numbered N (sectionAt (word t) E p)) n ba
-    (small-line N s (λ p. le-trans (decoded-short (word t 0) (word t 1) t T p) (W .range .records)))
-    (i ∙ sym d ∙ sym (length-map s (numbered N))) (let l = A .area in omega arith)
+    (w ∙ each-put a (numberedLine N s) (λ p. numbered N (sectionAt (word t) E p)) n (i ∙ sym d ∙ sym (length-map s (numbered N)))
     (λ q lt. ap (λ (x : ℕ). numbered N (sectionAt (word t) x q)) j
     ∙ ap (numbered N) (sym (decoded-at (word t 0) (word t 1) t T q (omega arith))) ∙ sym (position N s q)))
