@@ -80,7 +80,7 @@ for block in table area; do
 done
 
 engine "a wrong number"
-wrapped -DWRONG_NUMBER && finds "numbers returned differ" "$origin" "proved: +returned 5" "reference: returned 6"
+wrapped -DWRONG_NUMBER && finds "differ in the number returned" "$origin" "proved: +returned 5" "reference: returned 6"
 told
 
 engine "two calls swapped"
