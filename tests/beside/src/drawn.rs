@@ -59,10 +59,16 @@ pub struct Case<'a> {
 }
 
 impl Case<'_> {
+    /// A call that is lent an answer area at most.
     fn call(&mut self, call: Call) -> u32 {
         let length = area_length(&mut self.rng, call.area_length(self.n));
         let area = self.rng.bytes(length);
-        let returned = self.pair.call(call, &area).0;
+        self.call_on(call, call.areas(&[&area]))
+    }
+
+    /// A call that is lent areas of these bytes.
+    fn call_on(&mut self, call: Call, areas: &[&[u8]]) -> u32 {
+        let returned = self.pair.call_on(call, areas);
         self.tally.add(call, returned);
         self.tally.largest += u64::from((self.n, self.e) == (16, 1024));
         returned

@@ -2,7 +2,6 @@
 //!
 //! Every call is made on both, each with a table and areas of its own. What they return and leave must be the same,
 //! byte for byte, and no byte around the lent ones may change.
-use cases::calls::Lent;
 use cases::{from_words, on_reference, Call, Rng};
 use std::env;
 use std::fmt;
@@ -48,7 +47,6 @@ impl fmt::Display for Origin {
 }
 
 /// Lent bytes between two rows of guard bytes.
-#[derive(Clone)]
 struct Guarded(Vec<u8>);
 
 /// Guard byte i; none of them is a byte that a table of small numbers has.
@@ -80,9 +78,14 @@ impl Guarded {
     }
 }
 
-/// A table and areas, to be lent.
-fn contents<'a>(table: &'a mut Guarded, areas: &'a mut [Guarded]) -> Vec<&'a mut [u8]> {
-    once(table).chain(areas).map(Guarded::content_mut).collect()
+/// The table is kept from call to call, the areas are those of one call.
+fn with_areas(lent: &mut Vec<Guarded>, areas: &[&[u8]]) {
+    lent.truncate(1);
+    lent.extend(areas.iter().map(|area| Guarded::new(area)));
+}
+
+fn contents(lent: &mut [Guarded]) -> Vec<&mut [u8]> {
+    lent.iter_mut().map(Guarded::content_mut).collect()
 }
 
 /// How a call reaches an engine: on these bytes, lent in the order of its sort. Answers the number returned.
@@ -101,19 +104,6 @@ pub fn on_proved(call: Call, lent: &mut [&mut [u8]]) -> u32 {
     }
 }
 
-/// What one engine made of a call: the number returned, and the areas.
-struct Outcome {
-    returned: u32,
-    areas: Vec<Guarded>,
-}
-
-impl fmt::Display for Outcome {
-    fn fmt(&self, f: &mut fmt::Formatter) -> fmt::Result {
-        write!(f, "returned {}, areas", self.returned)?;
-        self.areas.iter().try_for_each(|area| write!(f, " {}", hex(area.content())))
-    }
-}
-
 /// Where something doesn't hold, what is wrong with which bytes.
 fn keeps(holds: bool, what: &str, which: &str) -> Result<(), String> {
     holds.then_some(()).ok_or_else(|| format!("{what} {which}"))
@@ -122,8 +112,10 @@ fn keeps(holds: bool, what: &str, which: &str) -> Result<(), String> {
 /// A table lent to the proved engine, and the same table lent to the reference engine.
 pub struct Pair {
     engine: Engine,
-    proved: Guarded,
-    reference: Guarded,
+    /// What each engine is lent: the table, then the areas of the last call.
+    proved: Vec<Guarded>,
+    reference: Vec<Guarded>,
+    /// The table before the last call.
     before: Vec<u8>,
     origin: Origin,
 }
@@ -135,7 +127,7 @@ impl Pair {
 
     /// A pair whose calls reach the proved engine in this way.
     pub fn on(engine: Engine, table: &[u8], origin: Origin) -> Pair {
-        let (proved, reference) = (Guarded::new(table), Guarded::new(table));
+        let (proved, reference) = (vec![Guarded::new(table)], vec![Guarded::new(table)]);
         Pair { engine, proved, reference, before: table.to_vec(), origin }
     }
 
@@ -152,48 +144,49 @@ impl Pair {
 
     /// The table as the proved engine left it.
     pub fn table(&self) -> &[u8] {
-        self.proved.content()
+        self.proved[0].content()
     }
 
-    /// The call with an area of these bytes, if it takes one. Answers the number returned and the area.
+    /// The call with an answer area of these bytes, if it has one. Answers the number returned and the area.
     pub fn call(&mut self, call: Call, area: &[u8]) -> (u32, Vec<u8>) {
-        let areas = if call.sort().lent.len() == 1 { &[][..] } else { &[area] };
-        let (returned, mut left) = self.call_on(call, areas);
-        (returned, left.pop().unwrap_or_default())
+        let returned = self.call_on(call, call.areas(&[area]));
+        (returned, self.areas().next().unwrap_or_default().to_vec())
     }
 
     /// Makes the call on both tables, with areas of these bytes on each side, and compares everything that the call
-    /// could touch. Answers the number returned and the areas.
-    pub fn call_on(&mut self, call: Call, areas: &[&[u8]]) -> (u32, Vec<Vec<u8>>) {
-        self.before.copy_from_slice(self.proved.content());
-        let mut own: Vec<Guarded> = areas.iter().map(|area| Guarded::new(area)).collect();
-        let mut other = own.clone();
-        let returned = (self.engine)(call, &mut contents(&mut self.proved, &mut own));
-        let expected = on_reference(call, &mut contents(&mut self.reference, &mut other));
-        let (own, other) = (Outcome { returned, areas: own }, Outcome { returned: expected, areas: other });
-        if let Err(what) = self.compare(call, areas, &own, &other) {
-            panic!("{}", self.failure(&what, call, areas, &own, &other));
+    /// could touch. Answers the number returned.
+    pub fn call_on(&mut self, call: Call, areas: &[&[u8]]) -> u32 {
+        assert_eq!(areas.len() + 1, call.sort().lent.len(), "{call:?}: what it is lent");
+        self.before.copy_from_slice(self.proved[0].content());
+        with_areas(&mut self.proved, areas);
+        with_areas(&mut self.reference, areas);
+        let returned = (self.engine)(call, &mut contents(&mut self.proved));
+        let expected = on_reference(call, &mut contents(&mut self.reference));
+        if let Err(what) = self.compare(call, areas, returned, expected) {
+            panic!("{}", self.failure(&what, call, areas, returned, expected));
         }
-        (returned, own.areas.iter().map(|area| area.content().to_vec()).collect())
+        returned
+    }
+
+    /// The areas as the proved engine left them in the last call.
+    pub fn areas(&self) -> impl Iterator<Item = &[u8]> {
+        self.proved[1..].iter().map(Guarded::content)
     }
 
     /// What is wrong with the two outcomes of a call, if anything is.
-    fn compare(&self, call: Call, areas: &[&[u8]], own: &Outcome, other: &Outcome) -> Result<(), String> {
-        let lent = call.sort().lent;
-        let before: Vec<&[u8]> = once(&self.before[..]).chain(areas.iter().copied()).collect();
-        let proved: Vec<&Guarded> = once(&self.proved).chain(&own.areas).collect();
-        let reference: Vec<&Guarded> = once(&self.reference).chain(&other.areas).collect();
-        for (i, bytes) in lent.iter().enumerate() {
-            let stand = proved[i].guards_stand() && reference[i].guards_stand();
-            keeps(stand, "bytes changed around the", bytes.name())?;
+    fn compare(&self, call: Call, areas: &[&[u8]], returned: u32, expected: u32) -> Result<(), String> {
+        let sides = || self.proved.iter().zip(&self.reference);
+        let lent = || call.sort().lent.iter().zip(sides());
+        for (bytes, (own, other)) in lent() {
+            keeps(own.guards_stand() && other.guards_stand(), "bytes changed around the", bytes.name())?;
         }
-        keeps(own.returned == other.returned, "the engines differ in the", "number returned")?;
-        for (i, bytes) in lent.iter().enumerate() {
-            let kept = proved[i].content() == before[i];
-            let read_only = matches!(bytes, Lent::Read(_));
-            keeps(proved[i].content() == reference[i].content(), "the engines differ in the", bytes.name())?;
-            keeps(kept || own.returned == 0, "a refused call changed the", bytes.name())?;
-            keeps(kept || !read_only, "a call that only answers changed the", bytes.name())?;
+        keeps(returned == expected, "the engines differ in the", "number returned")?;
+        let before = once(&self.before[..]).chain(areas.iter().copied());
+        for ((bytes, (own, other)), before) in lent().zip(before) {
+            let kept = own.content() == before;
+            keeps(own.content() == other.content(), "the engines differ in the", bytes.name())?;
+            keeps(kept || returned == 0, "a refused call changed the", bytes.name())?;
+            keeps(kept || bytes.may_change(), "a call that only reads it changed the", bytes.name())?;
         }
         Ok(())
     }
@@ -205,18 +198,21 @@ impl Pair {
         (returned, if returned == 0 { cases::to_words(&area) } else { Vec::new() })
     }
 
-    fn failure(&self, what: &str, call: Call, areas: &[&[u8]], own: &Outcome, other: &Outcome) -> String {
+    fn failure(&self, what: &str, call: Call, areas: &[&[u8]], returned: u32, expected: u32) -> String {
         let head = cases::to_words(&self.before[..self.before.len().min(8)]);
-        let [proved, reference] = [self.proved.content(), self.reference.content()];
+        let [proved, reference] = [&self.proved, &self.reference].map(|lent| lent[0].content());
         let place = proved.iter().zip(reference).position(|(a, b)| a != b);
-        let areas: Vec<String> = areas.iter().map(|area| hex(area)).collect();
+        let shown = |lent: &[Guarded]| lent[1..].iter().map(|area| hex(area.content())).collect::<String>();
         format!(
             "{what}\n  {}\n  {call:?}, areas {}\n  table of {} bytes, n and E {head:?}: {}\n  \
-             proved:    {own}\n  reference: {other}\n  first difference of the tables: byte {place:?}",
+             proved:    returned {returned}, areas {}\n  reference: returned {expected}, areas {}\n  \
+             first difference of the tables: byte {place:?}",
             self.origin,
-            areas.join(" "),
+            areas.iter().map(|area| hex(area)).collect::<String>(),
             self.before.len(),
             hex(&self.before),
+            shown(&self.proved),
+            shown(&self.reference),
         )
     }
 }

@@ -14,6 +14,11 @@ impl Lent {
             Lent::Read(name) | Lent::Written(name) => name,
         }
     }
+
+    /// Whether an accepted call may change it.
+    pub fn may_change(self) -> bool {
+        matches!(self, Lent::Written(_))
+    }
 }
 
 /// A sort of call.
@@ -62,14 +67,14 @@ pub enum Call {
 
 impl Call {
     /// Its name in CALLS, and its numbers in the order of its parameters.
-    pub fn parts(self) -> (&'static str, Vec<u32>) {
+    pub fn parts(self) -> (&'static str, [Option<u32>; 3]) {
         match self {
-            Call::Fresh { n, e } => ("fresh", vec![n, e]),
-            Call::Checkpoint { p } => ("checkpoint", vec![p]),
-            Call::Send { p, q } => ("send", vec![p, q]),
-            Call::Receipt { p, q, k } => ("receipt", vec![p, q, k]),
-            Call::Line { number } => ("line", vec![number]),
-            Call::Failed { mask } => ("failed", vec![mask]),
+            Call::Fresh { n, e } => ("fresh", [Some(n), Some(e), None]),
+            Call::Checkpoint { p } => ("checkpoint", [Some(p), None, None]),
+            Call::Send { p, q } => ("send", [Some(p), Some(q), None]),
+            Call::Receipt { p, q, k } => ("receipt", [Some(p), Some(q), Some(k)]),
+            Call::Line { number } => ("line", [Some(number), None, None]),
+            Call::Failed { mask } => ("failed", [Some(mask), None, None]),
         }
     }
 
@@ -85,7 +90,7 @@ impl Call {
 
     /// Whether it leaves the table as it is.
     pub fn only_answers(self) -> bool {
-        self.sort().lent.first() != Some(&TABLE)
+        !self.sort().lent[0].may_change()
     }
 
     /// The exact length of the answer area, for a table of n processes.
@@ -99,11 +104,16 @@ impl Call {
         }
     }
 
-    /// The call as a line of the text program has it, without the line's end: a word and three fields.
+    /// Of an answer area and what else may be lent, as much as the call takes.
+    pub fn areas<'a>(self, areas: &'a [&'a [u8]]) -> &'a [&'a [u8]] {
+        &areas[..self.sort().lent.len() - 1]
+    }
+
+    /// The call as a line of the text program has it, without the line's end.
     pub fn text(self) -> String {
         let (name, numbers) = self.parts();
-        let fields: String = numbers.iter().map(|number| format!(",{number}")).collect();
-        format!("{name}{fields}{}", ",".repeat(3 - numbers.len()))
+        let [a, b, c] = numbers.map(|number| number.map_or_else(String::new, |number| number.to_string()));
+        format!("{name},{a},{b},{c}")
     }
 }
 

@@ -24,7 +24,7 @@ static TALLY: LazyLock<Mutex<Tally>> = LazyLock::new(Mutex::default);
 
 /// The call as the host makes it.
 fn on_host(call: Call, lent: &mut [&mut [u8]]) -> u32 {
-    let (_, numbers) = call.parts();
+    let numbers = call.parts().1.map(Option::unwrap_or_default);
     let bytes = |lent: &mut &mut [u8]| Bytes { start: lent.as_mut_ptr(), length: lent.len() };
     let lent: Vec<Bytes> = lent.iter_mut().map(bytes).collect();
     unsafe { fuzz_call(call.place() as u32, numbers.as_ptr(), lent.as_ptr(), lent.len()) }
