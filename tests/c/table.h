@@ -1,5 +1,5 @@
-/* What stands where in a table, in words: document 01, "The table". For the hosts beside it and the bench, which write tables that no
-   call makes. In what C99 and C++17 have in common. */
+/* What stands where in a table, in words: document 01, "The table". For the hosts beside it and the bench, which write tables that
+   no call makes. In what C99 and C++17 have in common. */
 #ifndef TABLE_H
 #define TABLE_H
 

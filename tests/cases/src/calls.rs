@@ -30,17 +30,18 @@ pub struct Sort {
     pub rows: &'static [u32],
 }
 
-const READ: Lent = Lent::Read("table");
+const TABLE_READ: Lent = Lent::Read("table");
 const TABLE: Lent = Lent::Written("table");
 const AREA: Lent = Lent::Written("area");
 
+/// In the header's order.
 pub static CALLS: &[Sort] = &[
     Sort { name: "fresh", lent: &[TABLE], rows: &[1, 2] },
     Sort { name: "checkpoint", lent: &[TABLE, AREA], rows: &[2, 1, 2, 3, 4, 5, 9, 10] },
     Sort { name: "send", lent: &[TABLE, AREA], rows: &[2, 1, 2, 3, 4, 5, 6, 9] },
     Sort { name: "receipt", lent: &[TABLE, AREA], rows: &[2, 1, 2, 3, 4, 5, 6, 7, 8, 9] },
-    Sort { name: "line", lent: &[READ, AREA], rows: &[2, 1, 2, 3, 4] },
-    Sort { name: "failed", lent: &[READ, AREA], rows: &[2, 1, 2, 3, 4, 11] },
+    Sort { name: "line", lent: &[TABLE_READ, AREA], rows: &[2, 1, 2, 3, 4] },
+    Sort { name: "failed", lent: &[TABLE_READ, AREA], rows: &[2, 1, 2, 3, 4, 11] },
 ];
 
 impl Sort {
