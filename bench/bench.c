@@ -11,27 +11,23 @@
 #include <string.h>
 #include <time.h>
 
-#include "../include/ckpt.h"
+#include "../tests/c/table.h"
 
-uint32_t peer_checkpoint(uint8_t *table, size_t table_len, uint8_t *area, size_t area_len, uint32_t p);
-uint32_t peer_send(uint8_t *table, size_t table_len, uint8_t *area, size_t area_len, uint32_t p, uint32_t q);
-uint32_t peer_receipt(uint8_t *table, size_t table_len, uint8_t *area, size_t area_len, uint32_t p, uint32_t q, uint32_t k);
-uint32_t peer_line(const uint8_t *table, size_t table_len, uint8_t *area, size_t area_len, uint32_t number);
-uint32_t peer_failed(const uint8_t *table, size_t table_len, uint8_t *area, size_t area_len, uint32_t mask);
-uint32_t peer_fresh(uint8_t *table, size_t table_len, uint32_t n, uint32_t e);
+/* The calls that are timed, in the order of their rows: the name, and what is passed for one table. */
+#define EACH_CALL(X)                                                                        \
+    X(checkpoint, TABLE, AREA_OF(CKPT_CHECKPOINT_LENGTH), MESSAGE.to)                       \
+    X(send, TABLE, AREA_OF(CKPT_SEND_LENGTH), MESSAGE.to, MESSAGE.from)                     \
+    X(receipt, TABLE, AREA_OF(CKPT_RECEIPT_LENGTH), MESSAGE.to, MESSAGE.from, MESSAGE.send) \
+    X(line, TABLE, AREA_OF(CKPT_LINE_LENGTH(t->n)), MESSAGE.send)                           \
+    X(failed, TABLE, AREA_OF(CKPT_FAILED_LENGTH(t->n)), MASK)                               \
+    X(fresh, TABLE, t->n, t->e)
 
-enum call { CHECKPOINT, SEND, RECEIPT, LINE, FAILED, FRESH, CALLS };
-static const char *const call_names[CALLS] = {"checkpoint", "send", "receipt", "line", "failed", "fresh"};
+/* The same call in plain C has the same parameters. */
+#define PEER(NAME, ...) extern __typeof__(ckpt_##NAME) peer_##NAME;
+EACH_CALL(PEER)
 
-static const struct engine {
-    uint32_t (*checkpoint)(uint8_t *table, size_t table_len, uint8_t *area, size_t area_len, uint32_t p);
-    uint32_t (*send)(uint8_t *table, size_t table_len, uint8_t *area, size_t area_len, uint32_t p, uint32_t q);
-    uint32_t (*receipt)(uint8_t *table, size_t table_len, uint8_t *area, size_t area_len, uint32_t p, uint32_t q, uint32_t k);
-    uint32_t (*line)(const uint8_t *table, size_t table_len, uint8_t *area, size_t area_len, uint32_t number);
-    uint32_t (*failed)(const uint8_t *table, size_t table_len, uint8_t *area, size_t area_len, uint32_t mask);
-    uint32_t (*fresh)(uint8_t *table, size_t table_len, uint32_t n, uint32_t e);
-} product = {ckpt_checkpoint, ckpt_send, ckpt_receipt, ckpt_line, ckpt_failed, ckpt_fresh},
-  peer = {peer_checkpoint, peer_send, peer_receipt, peer_line, peer_failed, peer_fresh};
+#define NUMBERED(NAME, ...) CALL_##NAME,
+enum call { EACH_CALL(NUMBERED) CALLS };
 
 #define BOUND 2.0
 /* Process 0 fails. */
@@ -219,25 +215,23 @@ static void half_full(struct tables *tables, uint32_t n, uint32_t e) {
 
 /* ---- the fall ---- */
 
-static size_t section(const struct tables *table, uint32_t p) {
-    return 2 + (size_t)p * (3 + 3 * (size_t)table->e);
+/* A word of the heading of process p. */
+static size_t heading(const struct tables *table, uint32_t p, size_t word) {
+    return section_at(table->e, p) + word;
 }
 
-/* Word i of record r of process p: kind, process or number, send number. */
-static uint32_t record(const struct tables *table, uint32_t p, uint32_t r, size_t i) {
-    return ckpt_word(table->bytes, section(table, p) + 3 + 3 * (size_t)r + i);
-}
-
-static void put(struct tables *table, size_t word, uint32_t value) {
-    for (size_t byte = 0; byte < 4; byte++) table->bytes[4 * word + byte] = (uint8_t)(value >> (24 - 8 * byte));
+/* A word of record r of process p. */
+static uint32_t record(const struct tables *table, uint32_t p, uint32_t r, size_t word) {
+    return ckpt_word(table->bytes, record_at(table->e, p, r) + word);
 }
 
 static void add_record(struct tables *table, uint32_t p, uint32_t kind, uint32_t a, uint32_t b) {
-    size_t count = section(table, p), used = ckpt_word(table->bytes, count), place = count + 3 + 3 * used;
-    put(table, place, kind);
-    put(table, place + 1, a);
-    put(table, place + 2, b);
-    put(table, count, (uint32_t)used + 1);
+    uint32_t used = ckpt_word(table->bytes, heading(table, p, HEADING_COUNT));
+    size_t place = record_at(table->e, p, used);
+    put_word(table->bytes, place + RECORD_KIND, kind);
+    put_word(table->bytes, place + RECORD_A, a);
+    put_word(table->bytes, place + RECORD_B, b);
+    put_word(table->bytes, heading(table, p, HEADING_COUNT), used + 1);
 }
 
 /* Processes 0 and 1 in 341 groups of checkpoint i, send i and a receipt: of send i + 1 at process 0, none in the last group, and of
@@ -253,25 +247,25 @@ static void falling(struct tables *table) {
     for (uint32_t p = 0; p < 2; p++) {
         uint32_t groups = table->e / 3;
         for (uint32_t i = 1; i <= groups; i++) {
-            add_record(table, p, 1, i, 0);
-            add_record(table, p, 3, 1 - p, i);
-            if (p == 1) add_record(table, p, 4, 0, i);
-            if (p == 0 && i < groups) add_record(table, p, 4, 1, i + 1);
+            add_record(table, p, KIND_CHECKPOINT, i, 0);
+            add_record(table, p, KIND_SEND, 1 - p, i);
+            if (p == 1) add_record(table, p, KIND_RECEIPT, 0, i);
+            if (p == 0 && i < groups) add_record(table, p, KIND_RECEIPT, 1, i + 1);
         }
-        put(table, section(table, p) + 1, groups);
-        put(table, section(table, p) + 2, groups);
+        put_word(table->bytes, heading(table, p, HEADING_NUMBER), groups);
+        put_word(table->bytes, heading(table, p, HEADING_SENDS), groups);
     }
 }
 
 /* The last checkpoint of p among its first so many records, else 0. */
 static uint32_t checkpoint_before(const struct tables *table, uint32_t p, uint32_t at) {
-    while (at > 0 && record(table, p, at - 1, 0) > 2) at--;
+    while (at > 0 && record(table, p, at - 1, RECORD_KIND) > KIND_FORCED) at--;
     return at;
 }
 
 static uint32_t sends_before(const struct tables *table, uint32_t p, uint32_t at) {
     uint32_t sends = 0;
-    for (uint32_t r = 0; r < at; r++) sends += record(table, p, r, 0) == 3;
+    for (uint32_t r = 0; r < at; r++) sends += record(table, p, r, RECORD_KIND) == KIND_SEND;
     return sends;
 }
 
@@ -279,7 +273,7 @@ static uint32_t sends_before(const struct tables *table, uint32_t p, uint32_t at
 static bool lowered(const struct tables *table, uint32_t p, uint32_t at[2]) {
     uint32_t sent = sends_before(table, 1 - p, at[1 - p]);
     for (uint32_t r = 0; r < at[p]; r++) {
-        if (record(table, p, r, 0) == 4 && record(table, p, r, 2) > sent) {
+        if (record(table, p, r, RECORD_KIND) == KIND_RECEIPT && record(table, p, r, RECORD_B) > sent) {
             at[p] = checkpoint_before(table, p, r);
             return true;
         }
@@ -290,7 +284,7 @@ static bool lowered(const struct tables *table, uint32_t p, uint32_t at[2]) {
 /* The fall when process 0 has failed, by document 01's words: a round takes back each process that received what is not sent. */
 static void count_rounds(const struct tables *table) {
     uint32_t at[2];
-    for (uint32_t p = 0; p < 2; p++) at[p] = ckpt_word(table->bytes, section(table, p));
+    for (uint32_t p = 0; p < 2; p++) at[p] = ckpt_word(table->bytes, heading(table, p, HEADING_COUNT));
     at[0] = checkpoint_before(table, 0, at[0]);
     memcpy(fallen.from, at, sizeof at);
     for (bool again = true; again; fallen.rounds += again) {
@@ -326,33 +320,36 @@ static void lend(struct lent *lent, const struct tables *tables) {
     memset(lent->areas, 0xA5, (size_t)tables->count * AREA);
 }
 
-/* The call on each table, one after the other. */
-static void call_all(const struct engine *engine, const struct tables *t, enum call call, struct lent *lent) {
-    const struct message *m = t->messages;
-#define EACH(CALL) for (int i = 0; i < t->count; i++) lent->returned[i] = engine->CALL
+/* A side's call on each table, one after the other. */
+typedef void on_each(const struct tables *t, struct lent *lent);
+
 #define TABLE lent->tables + (size_t)i * t->length, t->length
 #define AREA_OF(LENGTH) lent->areas[i], LENGTH
-    switch (call) {
-        case CHECKPOINT: EACH(checkpoint)(TABLE, AREA_OF(CKPT_CHECKPOINT_LENGTH), m[i].to); break;
-        case SEND: EACH(send)(TABLE, AREA_OF(CKPT_SEND_LENGTH), m[i].to, m[i].from); break;
-        case RECEIPT: EACH(receipt)(TABLE, AREA_OF(CKPT_RECEIPT_LENGTH), m[i].to, m[i].from, m[i].send); break;
-        case LINE: EACH(line)(TABLE, AREA_OF(CKPT_LINE_LENGTH(t->n)), m[i].send); break;
-        case FAILED: EACH(failed)(TABLE, AREA_OF(CKPT_FAILED_LENGTH(t->n)), MASK); break;
-        default: EACH(fresh)(TABLE, t->n, t->e);
+#define MESSAGE t->messages[i]
+#define ON_EACH(SIDE, NAME, ...)                                                            \
+    static void SIDE##_##NAME##_on_each(const struct tables *t, struct lent *lent) {        \
+        for (int i = 0; i < t->count; i++) lent->returned[i] = SIDE##_##NAME(__VA_ARGS__);  \
     }
-}
+#define ON_BOTH_SIDES(NAME, ...) ON_EACH(ckpt, NAME, __VA_ARGS__) ON_EACH(peer, NAME, __VA_ARGS__)
+EACH_CALL(ON_BOTH_SIDES)
+
+#define ROW(NAME, ...) {#NAME, ckpt_##NAME##_on_each, peer_##NAME##_on_each},
+static const struct {
+    const char *name;
+    on_each *product, *peer;
+} calls[CALLS] = {EACH_CALL(ROW)};
 
 /* A turn of one side, on fresh copies: nanoseconds for a call. */
-static double turn(const struct engine *engine, const struct tables *tables, enum call call, struct lent *lent) {
+static double turn(on_each *call, const struct tables *tables, struct lent *lent) {
     lend(lent, tables);
     uint64_t start = now();
-    call_all(engine, tables, call, lent);
+    call(tables, lent);
     return (double)(now() - start) / tables->count;
 }
 
 /* Begins a message. */
 static void say_row(const struct row *row) {
-    fprintf(stderr, "bench: %s%s at n = %u, E = %u", call_names[row->call], row->fall ? " in the fall" : "", row->tables->n,
+    fprintf(stderr, "bench: %s%s at n = %u, E = %u", calls[row->call].name, row->fall ? " in the fall" : "", row->tables->n,
             row->tables->e);
 }
 
@@ -438,9 +435,9 @@ static void measure_round(const struct row *row, double *of_product, double *of_
     const struct tables *tables = row->tables;
     double product_turns[MOST_TURNS], peer_turns[MOST_TURNS];
     for (int i = 0; i < tables->turns; i++) {
-        if (i % 2 == 0) product_turns[i] = turn(&product, tables, row->call, &product_lent);
-        peer_turns[i] = turn(&peer, tables, row->call, &peer_lent);
-        if (i % 2 == 1) product_turns[i] = turn(&product, tables, row->call, &product_lent);
+        if (i % 2 == 0) product_turns[i] = turn(calls[row->call].product, tables, &product_lent);
+        peer_turns[i] = turn(calls[row->call].peer, tables, &peer_lent);
+        if (i % 2 == 1) product_turns[i] = turn(calls[row->call].product, tables, &product_lent);
         same_turns(row);
     }
     *of_product = median(product_turns, tables->turns);
@@ -464,7 +461,7 @@ static void measure(struct row *row, int run) {
 static double place_time(const struct tables *tables, enum call call) {
     double turns[MOST_TURNS];
     for (int i = 0; i < tables->turns; i++) {
-        turns[i] = turn(&product, tables, call, &product_lent);
+        turns[i] = turn(calls[call].product, tables, &product_lent);
         accepted(tables, &product_lent);
     }
     return median(turns, tables->turns) / (tables->n * tables->e);
@@ -489,7 +486,7 @@ static void print_rows(int from, int to) {
     puts("| call       |  n |    E | product µs |  peer µs | product / peer | product / pass |");
     puts("|------------|---:|-----:|-----------:|---------:|---------------:|---------------:|");
     for (const struct row *row = rows + from; row < rows + to; row++) {
-        printf("| %-10s | %2u | %4u | %10.3f | %8.3f | %14.2f | %14.1f |\n", call_names[row->call], row->tables->n, row->tables->e,
+        printf("| %-10s | %2u | %4u | %10.3f | %8.3f | %14.2f | %14.1f |\n", calls[row->call].name, row->tables->n, row->tables->e,
                median(row->product, runs) / 1000, median(row->peer, runs) / 1000, median(row->ratio, runs),
                median(row->passes, runs));
     }
@@ -504,7 +501,7 @@ static void print_growth(void) {
     puts("|------------|--------:|--------:|--------:|--------:|---------:|----------:|-----------:|");
     for (int call = 0; call < CALLS; call++) {
         double last = place(call, SERIES - 1);
-        printf("| %-10s | %7.3f | %7.3f | %7.3f | %7.3f | %8.3f | %9.2f | %10.2f |\n", call_names[call], place(call, 0),
+        printf("| %-10s | %7.3f | %7.3f | %7.3f | %7.3f | %8.3f | %9.2f | %10.2f |\n", calls[call].name, place(call, 0),
                place(call, 1), place(call, 2), place(call, 3), last, last / place(call, 0), last / place(call, BOUND_FROM));
     }
 }
@@ -540,12 +537,12 @@ static int over_bounds(void) {
     }
     for (int call = 0; call < CALLS; call++) {
         double ratio = place(call, SERIES - 1) / place(call, BOUND_FROM);
-        if (call == FAILED || ratio <= BOUND) continue;
+        if (call == CALL_failed || ratio <= BOUND) continue;
         over = 1;
         fprintf(stderr, "bench: %s takes %.2f times as long for a place at E = 1024 as at E = 256, more than %.0f\n",
-                call_names[call], ratio, BOUND);
+                calls[call].name, ratio, BOUND);
     }
-    printf("\nLargest product / peer at n = 16, E = 1024: %.2f, %s.\n", median(worst->ratio, runs), call_names[worst->call]);
+    printf("\nLargest product / peer at n = 16, E = 1024: %.2f, %s.\n", median(worst->ratio, runs), calls[worst->call].name);
     return over;
 }
 
@@ -560,7 +557,7 @@ static void make_tables(void) {
     for (int i = 0; i < SERIES; i++) half_full(&grown[i], CKPT_MAX_PROCESSES, series[i]);
     falling(&fall);
     rows[FALL_ROW].tables = &fall;
-    rows[FALL_ROW].call = FAILED;
+    rows[FALL_ROW].call = CALL_failed;
     rows[FALL_ROW].fall = true;
 }
 

@@ -37,9 +37,14 @@ full() {
     bench_of "$program" && results | tee "$out" && mv "$out" bench/RESULTS.md
 }
 
+# every_call_timed: each call that the header declares has a row in what was printed
+every_call_timed() {
+    diff <(header_calls | sort) <(sed -n 's/^| \([a-z_]*\) *|.*/ckpt_\1/p' "$out" | grep -vx ckpt_call | sort -u)
+}
+
 short() {
     bench_of "$program" || return 1
-    if "$program" --short >"$out"; then
+    if "$program" --short >"$out" && every_call_timed; then
         tail -n 1 "$out"
     else
         cat "$out"
@@ -65,9 +70,10 @@ refuses() {
 # The area's last byte, the table's last and the number returned are wrong in turn; then a step is slow, one is slower the larger
 # the table, and a failure line is slow enough to be seen in the fall alone.
 faults() {
-    local send='send at n = 3, E = 6: product and peer differ in' largest='at n = 16, E = 1024 takes [0-9.]+ times'
+    local send='send at n = 3, E = 6: product and peer differ in' largest='at n = 16, E = 1024 takes [0-9.]+ times' last
+    last=$(($(table_length 3 6) - 1))
     refuses "with a wrong area" "$send the area, first at byte 7$" -DAFTER='area[7] ^= 1' &&
-        refuses "with a wrong table" "$send the table, first at byte 259$" -DAFTER='table[table_len - 1] ^= 1' &&
+        refuses "with a wrong table" "$send the table, first at byte $last$" -DAFTER='table[table_len - 1] ^= 1' &&
         refuses "with a wrong number" "$send the number returned: 5 and 0$" -DAFTER='returned = CKPT_BAD_PROCESS' &&
         refuses "with a slow send" "send $largest" -DCHECKS=4 &&
         refuses "that is not linear" "send takes [0-9.]+ times as long for a place" -DCHECKS='ckpt_word(table, 1) / 64' &&

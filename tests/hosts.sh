@@ -14,6 +14,18 @@ archive_made() {
     mkdir -p "$made"
 }
 
+# header_calls: the calls that the header declares
+header_calls() {
+    sed -n 's/^uint32_t \(ckpt_[a-z_]*\)(.*/\1/p' include/ckpt.h
+}
+
+# table_length N E: the header's length of a table
+table_length() {
+    local sum
+    sum=$(${CC:-cc} -E -P -Iinclude -include ckpt.h - <<<"CKPT_TABLE_LENGTH($1, $2)" | tail -n 1) || return 1
+    echo $((${sum//ul/}))
+}
+
 # host_of SOURCE PROGRAM WORDS..: builds a C99 host of the archive, with these words for the compiler
 host_of() {
     local source=$1 program=$2

@@ -20,7 +20,7 @@ header_in_cpp17() {
 # the archive exports the header's calls and nothing else, and asks of C for nothing but memset
 symbols() {
     local asked
-    diff <(sed -n 's/^uint32_t \(ckpt_[a-z]*\)(.*/\1/p' include/ckpt.h | sort) \
+    diff <(header_calls | sort) \
         <(nm --extern-only --defined-only "$lib" | awk 'NF == 3 { print $3 }' | sort) || return 1
     asked=$(nm --undefined-only "$lib" | awk 'NF == 2 { print $2 }') || return 1
     ! grep -vx memset <<<"$asked"
@@ -57,9 +57,11 @@ freestanding() {
         "$made/freestanding"
 }
 
+# the README has the sizes, and the stack of every call is among them
 sizes_current() {
     local row
     tests/sizes.sh >"$made/sizes" || return 1
+    diff <(header_calls | sort) <(sed -n 's/^| stack of .\(ckpt_[a-z_]*\). | .*/\1/p' "$made/sizes" | sort) || return 1
     while IFS= read -r row; do
         grep -qxF -- "$row" README.md || {
             echo "README.md lacks the row: $row" >&2

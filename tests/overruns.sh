@@ -13,10 +13,13 @@ seed=1
 origin="fuzz, case [0-9]+, CKPT_SEED=$seed"
 missed=0
 
-# wrapped WORDS..: makes the fuzzer with overrun.c, compiled with these words, around two calls of the archive
+# what overrun.c wraps: a call that only reads the table, and one that writes it
+calls=(ckpt_line ckpt_send)
+
+# wrapped WORDS..: makes the fuzzer with overrun.c, compiled with these words, around these calls of the archive
 wrapped() {
     ${CC:-cc} -std=c99 "${strict[@]}" -O1 -fno-builtin "$@" -c -o "$folder/overrun.o" tests/c/overrun.c &&
-        fuzz_program "$program" "$lib" "$folder/overrun.o" -Wl,--wrap=ckpt_line,--wrap=ckpt_send
+        fuzz_program "$program" "$lib" "$folder/overrun.o" "${calls[@]/#/-Wl,--wrap=}"
 }
 
 # swapped: makes the fuzzer with an archive in which two calls have changed names. That this is found shows that the fuzzer's calls
@@ -57,10 +60,10 @@ told() {
     fi
 }
 
-# touches FUNCTION BLOCK PATTERN..: the variant in which this function of overrun.c touches a byte outside the block
+# touches FUNCTION BLOCK PATTERN..: the variant in which this function of overrun.c touches a byte outside the block of this name
 touches() {
     engine "${1//_/ } the $2"
-    wrapped "-DTOUCH=$1($2, $2_len)" && finds "AddressSanitizer" "${@:3}"
+    wrapped "-DTOUCH=$1" "-DTOUCHED=\"$2\"" && finds "AddressSanitizer" "${@:3}"
     told
 }
 
@@ -80,7 +83,7 @@ for block in table area; do
 done
 
 engine "a wrong number"
-wrapped -DWRONG_NUMBER && finds "numbers returned differ" "$origin" "proved: +returned 5" "reference: returned 6"
+wrapped -DWRONG_NUMBER && finds "differ in the number returned" "$origin" "proved: +returned 5" "reference: returned 6"
 told
 
 engine "two calls swapped"

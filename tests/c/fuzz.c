@@ -23,16 +23,25 @@
 bool fuzz_case(uint64_t seed, uint64_t number);
 /* tests/fuzz: prints the tally; false where a call was never accepted, or never refused. */
 bool fuzz_tally(void);
-uint32_t fuzz_call(uint32_t place, const uint32_t *numbers, uint8_t *table, size_t table_len, uint8_t *area, size_t area_len);
+/* Bytes that tests/fuzz wants lent: a table, and what the call is lent besides. */
+struct bytes {
+    uint8_t *start;
+    size_t length;
+};
+uint32_t fuzz_call(uint32_t place, const uint32_t *numbers, const struct bytes *lent, size_t count);
 
-/* Room for the largest table and what is added to it, a multiple of every usual page size. */
-#define ROOM ((size_t)1 << 18)
+/* Room for the longest block, which is the largest table and what is added to it; a multiple of every usual page size. */
+#define ROOM ((size_t)1 << 20)
 /* A case takes some milliseconds. */
 #define LONGEST_CASE 60
 /* From so many seconds on, every call must have been accepted and refused. */
 #define LONG_RUN 5
 
+/* In the order of CALLS in tests/cases. */
 enum call { FRESH, CHECKPOINT, SEND, RECEIPT, LINE, FAILED };
+/* What a call is lent at most, in the order of its sort there. */
+enum lent { TABLE, AREA, LENT };
+static const char *const lent_names[LENT] = {"table", "area"};
 enum way { HEAP, PAGE_BEHIND, PAGE_IN_FRONT, WAYS };
 static const char *const way_names[WAYS] = {"in a heap block", "with a closed page behind", "with a closed page in front"};
 
@@ -43,7 +52,7 @@ struct lender {
     bool null;
 };
 
-static struct lender tables, areas;
+static struct lender lenders[LENT];
 static uint64_t seed, number, calls;
 
 /* No leak check: it needs rights that not every machine gives, and the engine allocates nothing. Little is kept of freed blocks:
@@ -53,8 +62,9 @@ const char *__asan_default_options(void) {
 }
 
 static void say_case(void) {
-    fprintf(stderr, "fuzz: case %" PRIu64 ", CKPT_SEED=%" PRIu64 ", table %s, area %s\n", number, seed, way_names[tables.way],
-            way_names[areas.way]);
+    fprintf(stderr, "fuzz: case %" PRIu64 ", CKPT_SEED=%" PRIu64, number, seed);
+    for (int i = 0; i < LENT; i++) fprintf(stderr, ", %s %s", lent_names[i], way_names[lenders[i].way]);
+    fprintf(stderr, "\n");
 }
 
 static void end_badly(const char *why) {
@@ -81,45 +91,46 @@ static uint8_t *block(const struct lender *lender, size_t length) {
     return lender->way == PAGE_BEHIND ? lender->room + ROOM - length : lender->room;
 }
 
-static uint8_t *lend(const struct lender *lender, const uint8_t *bytes, size_t length) {
-    uint8_t *lent = block(lender, length);
-    if (length > 0) memcpy(lent, bytes, length);
+static struct bytes lend(const struct lender *lender, struct bytes bytes) {
+    struct bytes lent = {block(lender, bytes.length), bytes.length};
+    if (lent.length > 0) memcpy(lent.start, bytes.start, lent.length);
     return lent;
 }
 
-static void take_back(const struct lender *lender, uint8_t *lent, uint8_t *bytes, size_t length) {
-    if (length > 0) memcpy(bytes, lent, length);
-    if (lender->way == HEAP) free(lent);
+static void take_back(const struct lender *lender, struct bytes lent, struct bytes bytes) {
+    if (lent.length > 0) memcpy(bytes.start, lent.start, lent.length);
+    if (lender->way == HEAP) free(lent.start);
 }
 
-static uint32_t on_engine(enum call call, const uint32_t *x, uint8_t *table, size_t table_len, uint8_t *area, size_t area_len) {
+static uint32_t on_engine(enum call call, const uint32_t *x, const struct bytes *lent) {
+#define OF(WHICH) lent[WHICH].start, lent[WHICH].length
     switch (call) {
-    case FRESH: return ckpt_fresh(table, table_len, x[0], x[1]);
-    case CHECKPOINT: return ckpt_checkpoint(table, table_len, area, area_len, x[0]);
-    case SEND: return ckpt_send(table, table_len, area, area_len, x[0], x[1]);
-    case RECEIPT: return ckpt_receipt(table, table_len, area, area_len, x[0], x[1], x[2]);
-    case LINE: return ckpt_line(table, table_len, area, area_len, x[0]);
-    case FAILED: return ckpt_failed(table, table_len, area, area_len, x[0]);
+    case FRESH: return ckpt_fresh(OF(TABLE), x[0], x[1]);
+    case CHECKPOINT: return ckpt_checkpoint(OF(TABLE), OF(AREA), x[0]);
+    case SEND: return ckpt_send(OF(TABLE), OF(AREA), x[0], x[1]);
+    case RECEIPT: return ckpt_receipt(OF(TABLE), OF(AREA), x[0], x[1], x[2]);
+    case LINE: return ckpt_line(OF(TABLE), OF(AREA), x[0]);
+    case FAILED: return ckpt_failed(OF(TABLE), OF(AREA), x[0]);
     }
     end_badly("no such call");
     return 0;
 }
 
-uint32_t fuzz_call(uint32_t place, const uint32_t *numbers, uint8_t *table, size_t table_len, uint8_t *area, size_t area_len) {
-    uint8_t *lent_table = lend(&tables, table, table_len);
-    uint8_t *lent_area = lend(&areas, area, area_len);
-    uint32_t returned = on_engine((enum call)place, numbers, lent_table, table_len, lent_area, area_len);
-    take_back(&areas, lent_area, area, area_len);
-    take_back(&tables, lent_table, table, table_len);
+uint32_t fuzz_call(uint32_t place, const uint32_t *numbers, const struct bytes *bytes, size_t count) {
+    struct bytes lent[LENT] = {{NULL, 0}};
+    if (count > LENT) end_badly("too much is lent");
+    for (size_t i = 0; i < count; i++) lent[i] = lend(&lenders[i], bytes[i]);
+    uint32_t returned = on_engine((enum call)place, numbers, lent);
+    for (size_t i = 0; i < count; i++) take_back(&lenders[i], lent[i], bytes[i]);
     calls++;
     return returned;
 }
 
 /* The case's number says how it lends: every way for a table meets every way for an area. */
 static void choose_ways(void) {
-    tables.way = (enum way)(number % WAYS);
-    areas.way = (enum way)(number / WAYS % WAYS);
-    tables.null = areas.null = number / (WAYS * WAYS) % 2 == 1;
+    uint64_t left = number;
+    for (int i = 0; i < LENT; i++, left /= WAYS) lenders[i].way = (enum way)(left % WAYS);
+    for (int i = 0; i < LENT; i++) lenders[i].null = left % 2 == 1;
 }
 
 static uint64_t nanoseconds(clockid_t clock) {
@@ -157,8 +168,7 @@ int main(int argc, char **argv) {
         fprintf(stderr, "usage: fuzz SECONDS [SEED [CASE]], in decimal numbers, at least one second\n");
         return 2;
     }
-    tables.room = room_between_closed_pages();
-    areas.room = room_between_closed_pages();
+    for (int i = 0; i < LENT; i++) lenders[i].room = room_between_closed_pages();
     __sanitizer_set_death_callback(say_case);
     signal(SIGALRM, on_alarm);
     run(seconds, first);

@@ -7,6 +7,8 @@
 #include <stdio.h>
 #include <string.h>
 
+#include "table.h"
+
 #if CKPT_TABLE_LENGTH(16, 1024) != 196808 || CKPT_BAD_MASK != 11
 #error "the header's macros can't be used by the preprocessor"
 #endif
@@ -23,10 +25,6 @@ static void same(int line, const char *what, unsigned long got, unsigned long st
     wrong = 1;
 }
 #define SAME(got, stated) same(__LINE__, #got, got, stated)
-
-static void put(size_t word, uint32_t value) {
-    for (size_t i = 0; i < 4; i++) table[4 * word + i] = (uint8_t)(value >> (24 - 8 * i) & 0xff);
-}
 
 #define LENT table, sizeof table
 static uint32_t fresh(uint32_t n, uint32_t e) { return ckpt_fresh(LENT, n, e); }
@@ -73,10 +71,10 @@ static void table_rows(void) {
     SAME(fresh(N, E), CKPT_OK);
     all(CKPT_BAD_TABLE_LENGTH, table, 7, 0);
     all(CKPT_BAD_TABLE_LENGTH, table, sizeof table - 1, 0);
-    put(0, CKPT_MAX_PROCESSES + 1);
+    put_word(table, 0, CKPT_MAX_PROCESSES + 1);
     all(CKPT_BAD_DIMENSIONS, table, sizeof table, 0);
-    put(0, N);
-    put(2 + N * (3 + 3 * E) - 1, 1);
+    put_word(table, 0, N);
+    put_word(table, section_at(E, N) - 1, 1);
     all(CKPT_NOT_WELL_LAID, table, sizeof table, 0);
 }
 
@@ -114,12 +112,12 @@ static void later_rows(void) {
 /* Number 10 is met only by a table that no call makes: n = 1, E = 2, one kind 1 record numbered 2. */
 static void number_at_limit(void) {
     memset(table, 0, sizeof table);
-    put(0, 1);
-    put(1, 2);
-    put(2, 1);
-    put(3, 2);
-    put(5, 1);
-    put(6, 2);
+    put_word(table, 0, 1);
+    put_word(table, 1, 2);
+    put_word(table, section_at(2, 0) + HEADING_COUNT, 1);
+    put_word(table, section_at(2, 0) + HEADING_NUMBER, 2);
+    put_word(table, record_at(2, 0, 0) + RECORD_KIND, KIND_CHECKPOINT);
+    put_word(table, record_at(2, 0, 0) + RECORD_A, 2);
     SAME(ckpt_checkpoint(table, CKPT_TABLE_LENGTH(1, 2), area, CKPT_CHECKPOINT_LENGTH, 0), CKPT_NUMBER_AT_LIMIT);
 }
 
@@ -142,6 +140,7 @@ static void lengths(void) {
     SAME(CKPT_TABLE_LENGTH(1, 1), 32);
     SAME(CKPT_TABLE_LENGTH(n, e), 24680);
     SAME(CKPT_TABLE_LENGTH(n + 8, 4 * e), 196808);
+    SAME(CKPT_TABLE_LENGTH(N, E), 4 * section_at(E, N));
     SAME(CKPT_CHECKPOINT_LENGTH, 4);
     SAME(CKPT_SEND_LENGTH, 8);
     SAME(CKPT_RECEIPT_LENGTH, 8);

@@ -1,16 +1,13 @@
 /* An engine that goes wrong, to see that the fuzzer finds it (tests/overruns.sh): ckpt_line and ckpt_send of the archive, wrapped
-   by the linker. -DTOUCH is what both do first, one of the functions below on a lent block; without it they do what the archive's
-   do. -DWRONG_NUMBER makes ckpt_send return 5 where 6 is due. Compiled without a sanitizer, as the archive is. */
+   by the linker. -DTOUCH is what both do first, one of the functions below, with the lent block that -DTOUCHED names; without these
+   they do what the archive's do. -DWRONG_NUMBER makes ckpt_send return 5 where 6 is due. Compiled without a sanitizer, as the
+   archive is. */
 #include <string.h>
 
 #include <ckpt.h>
 
 uint32_t __real_ckpt_line(const uint8_t *table, size_t table_len, uint8_t *area, size_t area_len, uint32_t number);
 uint32_t __real_ckpt_send(uint8_t *table, size_t table_len, uint8_t *area, size_t area_len, uint32_t p, uint32_t q);
-
-#ifndef TOUCH
-#define TOUCH (void)0
-#endif
 
 static inline void reads(const uint8_t *byte) {
     (void)*(const volatile uint8_t *)byte;
@@ -53,13 +50,24 @@ static inline void memset_behind(const uint8_t *block, size_t length) {
     if (ends_within_page(block, length)) memset((uint8_t *)block + length, 0, 1);
 }
 
+/* What a wrapped call does with each block that it is lent. */
+static inline void lent(const char *name, const uint8_t *block, size_t length) {
+#ifdef TOUCH
+    if (strcmp(name, TOUCHED) == 0) TOUCH(block, length);
+#else
+    (void)name, (void)block, (void)length;
+#endif
+}
+
 uint32_t __wrap_ckpt_line(const uint8_t *table, size_t table_len, uint8_t *area, size_t area_len, uint32_t number) {
-    TOUCH;
+    lent("table", table, table_len);
+    lent("area", area, area_len);
     return __real_ckpt_line(table, table_len, area, area_len, number);
 }
 
 uint32_t __wrap_ckpt_send(uint8_t *table, size_t table_len, uint8_t *area, size_t area_len, uint32_t p, uint32_t q) {
-    TOUCH;
+    lent("table", table, table_len);
+    lent("area", area, area_len);
     uint32_t returned = __real_ckpt_send(table, table_len, area, area_len, p, q);
 #ifdef WRONG_NUMBER
     if (returned == 6) return 5;

@@ -1,20 +1,13 @@
 //! Cuts and failure lines by document 01's words, read from a table's bytes.
 use cases::records;
+use cases::table::{is_checkpoint, is_send, Record, A, B, KIND, RECEIPT};
 use std::fmt;
-
-/// A used record: kind, a, b.
-pub type Record = [u32; 3];
-
-pub const CHECKPOINT: u32 = 1;
-pub const FORCED: u32 = 2;
-pub const SEND: u32 = 3;
-pub const RECEIPT: u32 = 4;
 
 /// A receipt inside the cut whose sender's part of the cut has no such send to this receiver.
 pub fn has_orphan(sections: &[Vec<Record>], cut: &[u32]) -> bool {
     let part = |p: usize| &sections[p][..cut[p] as usize];
-    let orphan =
-        |p: usize, r: &Record| r[0] == RECEIPT && !part(r[1] as usize).contains(&[SEND, p as u32, r[2]]);
+    let sent = |q: usize, p: usize, k: u32| part(q).iter().any(|r| is_send(r, p as u32, k));
+    let orphan = |p: usize, r: &Record| r[KIND] == RECEIPT && !sent(r[A] as usize, p, r[B]);
     (0..sections.len()).any(|p| part(p).iter().any(|r| orphan(p, r)))
 }
 
@@ -41,10 +34,10 @@ struct Received {
 /// The receipts of process p. A send to p that isn't there has a place behind every cut.
 fn received(sections: &[Vec<Record>], p: usize) -> Vec<Received> {
     let place = |i: usize| i as u32 + 1;
-    let receipts = sections[p].iter().enumerate().filter(|(_, r)| r[0] == RECEIPT);
-    let with_send = |(i, &[_, sender, k]): (usize, &Record)| {
-        let sender = sender as usize;
-        let sent = sections[sender].iter().position(|r| *r == [SEND, p as u32, k]);
+    let receipts = sections[p].iter().enumerate().filter(|(_, r)| r[KIND] == RECEIPT);
+    let with_send = |(i, receipt): (usize, &Record)| {
+        let sender = receipt[A] as usize;
+        let sent = sections[sender].iter().position(|r| is_send(r, p as u32, receipt[B]));
         Received { place: place(i), sender, sent: sent.map_or(u32::MAX, place) }
     };
     receipts.map(with_send).collect()
@@ -71,7 +64,7 @@ impl History {
     fn permits(&self, mask: u32, p: usize, position: u32) -> bool {
         let (own, t) = (&self.sections[p], position as usize);
         let failed = mask >> p & 1 == 1;
-        t == 0 || own[t - 1][0] == CHECKPOINT || own[t - 1][0] == FORCED || !failed && t == own.len()
+        t == 0 || is_checkpoint(&own[t - 1]) || !failed && t == own.len()
     }
 
     fn latest_permitted(&self, mask: u32, p: usize, top: u32) -> u32 {

@@ -1,60 +1,49 @@
 //! Random cases, each a table and calls on it, drawn from a seed and made beside the reference engine: runs from fresh,
 //! well laid tables that no run makes, damaged bytes, wrong lengths and extreme numbers.
 use crate::{Engine, Origin, Pair};
+use cases::calls::{numbers, CALLS};
+use cases::table::WIDTH;
 use cases::{area_length, damage, messages, remember, step_or_line, table_length, well_laid, Call, Rng};
+use std::collections::{BTreeMap, BTreeSet};
 use std::fmt;
-
-pub const NAMES: [&str; 6] = ["fresh", "checkpoint", "send", "receipt", "line", "failed"];
-
-/// The numbers that document 01's rows let each call return, in the order of NAMES.
-pub const NUMBERS: [&[usize]; 6] = [
-    &[0, 1, 2],
-    &[0, 1, 2, 3, 4, 5, 9, 10],
-    &[0, 1, 2, 3, 4, 5, 6, 9],
-    &[0, 1, 2, 3, 4, 5, 6, 7, 8, 9],
-    &[0, 1, 2, 3, 4],
-    &[0, 1, 2, 3, 4, 11],
-];
 
 /// The most steps of a run from fresh.
 const MOST: u32 = 300;
 
-/// The call's place in NAMES.
-pub fn place(call: Call) -> usize {
-    match call {
-        Call::Fresh { .. } => 0,
-        Call::Checkpoint { .. } => 1,
-        Call::Send { .. } => 2,
-        Call::Receipt { .. } => 3,
-        Call::Line { .. } => 4,
-        Call::Failed { .. } => 5,
-    }
-}
-
 /// How often each call returned each number, and how many calls were made on tables of the largest dimensions.
 #[derive(Default)]
 pub struct Tally {
-    pub counts: [[u64; 12]; 6],
+    counts: BTreeMap<(&'static str, u32), u64>,
     pub largest: u64,
 }
 
 impl Tally {
-    pub fn total(&self) -> u64 {
-        self.counts.iter().flatten().sum()
+    fn add(&mut self, call: Call, returned: u32) {
+        *self.counts.entry((call.sort().name, returned)).or_default() += 1;
     }
 
-    pub fn met(&self, row: usize) -> Vec<usize> {
-        (0..12).filter(|&number| self.counts[row][number] > 0).collect()
+    pub fn total(&self) -> u64 {
+        self.counts.values().sum()
+    }
+
+    /// How often the call of this name returned the number.
+    pub fn count(&self, name: &str, number: u32) -> u64 {
+        self.counts.get(&(name, number)).copied().unwrap_or(0)
+    }
+
+    /// The numbers that the call of this name returned.
+    pub fn met(&self, name: &str) -> BTreeSet<u32> {
+        self.counts.keys().filter(|(own, _)| *own == name).map(|&(_, number)| number).collect()
     }
 }
 
 impl fmt::Display for Tally {
     fn fmt(&self, f: &mut fmt::Formatter) -> fmt::Result {
         write!(f, "{:10}", "returned")?;
-        (0..12).try_for_each(|number| write!(f, "{number:>9}"))?;
-        for (name, counts) in NAMES.iter().zip(&self.counts) {
-            write!(f, "\n{name:10}")?;
-            counts.iter().try_for_each(|count| write!(f, "{count:>9}"))?;
+        numbers().iter().try_for_each(|number| write!(f, "{number:>9}"))?;
+        for call in CALLS {
+            write!(f, "\n{:10}", call.name)?;
+            numbers().iter().try_for_each(|&number| write!(f, "{:>9}", self.count(call.name, number)))?;
         }
         Ok(())
     }
@@ -70,11 +59,17 @@ pub struct Case<'a> {
 }
 
 impl Case<'_> {
+    /// A call that is lent an answer area at most.
     fn call(&mut self, call: Call) -> u32 {
         let length = area_length(&mut self.rng, call.area_length(self.n));
         let area = self.rng.bytes(length);
-        let returned = self.pair.call(call, &area).0;
-        self.tally.counts[place(call)][returned as usize] += 1;
+        self.call_on(call, call.areas(&[&area]))
+    }
+
+    /// A call that is lent areas of these bytes.
+    fn call_on(&mut self, call: Call, areas: &[&[u8]]) -> u32 {
+        let returned = self.pair.call_on(call, areas);
+        self.tally.add(call, returned);
         self.tally.largest += u64::from((self.n, self.e) == (16, 1024));
         returned
     }
@@ -143,7 +138,7 @@ fn wrong_length(rng: &mut Rng, n: u32, e: u32) -> Vec<u8> {
         0 => rng.below(9) as usize,
         1 => length - 1,
         2 => length + 1,
-        3 => length + 12,
+        3 => length + 4 * WIDTH,
         4 => rng.below(length as u32) as usize,
         _ => length + rng.below(64) as usize,
     };

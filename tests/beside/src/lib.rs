@@ -1,10 +1,11 @@
 //! The proved engine and the reference engine on the same bytes.
 //!
-//! Every call is made on both, each with a table and an area of its own. What they return and leave must be the
-//! same, byte for byte, and no byte around the lent ones may change.
-use cases::{from_words, Call, Rng};
+//! Every call is made on both, each with a table and areas of its own. What they return and leave must be the same,
+//! byte for byte, and no byte around the lent ones may change.
+use cases::{from_words, on_reference, Call, Rng};
 use std::env;
 use std::fmt;
+use std::iter::once;
 
 pub mod cuts;
 pub mod drawn;
@@ -46,20 +47,20 @@ impl fmt::Display for Origin {
 }
 
 /// Lent bytes between two rows of guard bytes.
-struct Lent(Vec<u8>);
+struct Guarded(Vec<u8>);
 
 /// Guard byte i; none of them is a byte that a table of small numbers has.
 fn guard(i: usize) -> u8 {
     0x80 + i as u8
 }
 
-impl Lent {
-    fn new(content: &[u8]) -> Lent {
+impl Guarded {
+    fn new(content: &[u8]) -> Guarded {
         let mut bytes = Vec::with_capacity(content.len() + 2 * GUARD);
         bytes.extend((0..GUARD).map(guard));
         bytes.extend(content);
         bytes.extend((0..GUARD).map(guard));
-        Lent(bytes)
+        Guarded(bytes)
     }
 
     fn content(&self) -> &[u8] {
@@ -77,38 +78,44 @@ impl Lent {
     }
 }
 
-/// How a call reaches an engine: on these bytes for a table and an area. Answers the number returned.
-pub type Engine = fn(Call, &mut [u8], &mut [u8]) -> u32;
+/// The table is kept from call to call, the areas are those of one call.
+fn with_areas(lent: &mut Vec<Guarded>, areas: &[&[u8]]) {
+    lent.truncate(1);
+    lent.extend(areas.iter().map(|area| Guarded::new(area)));
+}
+
+fn contents(lent: &mut [Guarded]) -> Vec<&mut [u8]> {
+    lent.iter_mut().map(Guarded::content_mut).collect()
+}
+
+/// How a call reaches an engine: on these bytes, lent in the order of its sort. Answers the number returned.
+pub type Engine = fn(Call, &mut [&mut [u8]]) -> u32;
 
 /// The call on the proved engine alone.
-pub fn on_proved(call: Call, table: &mut [u8], area: &mut [u8]) -> u32 {
-    match call {
-        Call::Fresh { n, e } => ckpt::fresh(table, n, e),
-        Call::Checkpoint { p } => ckpt::checkpoint(table, area, p),
-        Call::Send { p, q } => ckpt::send(table, area, p, q),
-        Call::Receipt { p, q, k } => ckpt::receipt(table, area, p, q, k),
-        Call::Line { number } => ckpt::line(table, area, number),
-        Call::Failed { mask } => ckpt::failed(table, area, mask),
+pub fn on_proved(call: Call, lent: &mut [&mut [u8]]) -> u32 {
+    match (call, lent) {
+        (Call::Fresh { n, e }, [table]) => ckpt::fresh(table, n, e),
+        (Call::Checkpoint { p }, [table, area]) => ckpt::checkpoint(table, area, p),
+        (Call::Send { p, q }, [table, area]) => ckpt::send(table, area, p, q),
+        (Call::Receipt { p, q, k }, [table, area]) => ckpt::receipt(table, area, p, q, k),
+        (Call::Line { number }, [table, area]) => ckpt::line(table, area, number),
+        (Call::Failed { mask }, [table, area]) => ckpt::failed(table, area, mask),
+        (_, lent) => panic!("{call:?} with {} lent areas", lent.len()),
     }
 }
 
-/// The call on the reference engine alone.
-pub fn on_reference(call: Call, table: &mut [u8], area: &mut [u8]) -> u32 {
-    match call {
-        Call::Fresh { n, e } => reference::fresh(table, n, e),
-        Call::Checkpoint { p } => reference::checkpoint(table, area, p),
-        Call::Send { p, q } => reference::send(table, area, p, q),
-        Call::Receipt { p, q, k } => reference::receipt(table, area, p, q, k),
-        Call::Line { number } => reference::line(table, area, number),
-        Call::Failed { mask } => reference::failed(table, area, mask),
-    }
+/// Where something doesn't hold, what is wrong with which bytes.
+fn keeps(holds: bool, what: &str, which: &str) -> Result<(), String> {
+    holds.then_some(()).ok_or_else(|| format!("{what} {which}"))
 }
 
 /// A table lent to the proved engine, and the same table lent to the reference engine.
 pub struct Pair {
     engine: Engine,
-    proved: Lent,
-    reference: Lent,
+    /// What each engine is lent: the table, then the areas of the last call.
+    proved: Vec<Guarded>,
+    reference: Vec<Guarded>,
+    /// The table before the last call.
     before: Vec<u8>,
     origin: Origin,
 }
@@ -120,7 +127,7 @@ impl Pair {
 
     /// A pair whose calls reach the proved engine in this way.
     pub fn on(engine: Engine, table: &[u8], origin: Origin) -> Pair {
-        let (proved, reference) = (Lent::new(table), Lent::new(table));
+        let (proved, reference) = (vec![Guarded::new(table)], vec![Guarded::new(table)]);
         Pair { engine, proved, reference, before: table.to_vec(), origin }
     }
 
@@ -137,30 +144,51 @@ impl Pair {
 
     /// The table as the proved engine left it.
     pub fn table(&self) -> &[u8] {
-        self.proved.content()
+        self.proved[0].content()
     }
 
-    /// Makes the call on both tables, with an area of these bytes on each side, and compares everything that the
-    /// call could touch. Answers the number returned and the area.
+    /// The call with an answer area of these bytes, if it has one. Answers the number returned and the area.
     pub fn call(&mut self, call: Call, area: &[u8]) -> (u32, Vec<u8>) {
-        self.before.copy_from_slice(self.proved.content());
-        let (mut own, mut other) = (Lent::new(area), Lent::new(area));
-        let returned = (self.engine)(call, self.proved.content_mut(), own.content_mut());
-        let expected = on_reference(call, self.reference.content_mut(), other.content_mut());
-        let keeps = |holds: bool, what: &str| {
-            if !holds {
-                panic!("{}", self.failure(what, call, area, (returned, &own), (expected, &other)));
-            }
-        };
-        keeps(own.guards_stand() && other.guards_stand(), "bytes around the area changed");
-        keeps(self.proved.guards_stand() && self.reference.guards_stand(), "bytes around the table changed");
-        keeps(returned == expected, "the numbers returned differ");
-        keeps(self.proved.content() == self.reference.content(), "the tables differ");
-        keeps(own.content() == other.content(), "the areas differ");
-        let kept = self.proved.content() == self.before;
-        keeps(returned == 0 || kept && own.content() == area, "a refused call changed table or area");
-        keeps(!matches!(call, Call::Line { .. } | Call::Failed { .. }) || kept, "a line changed the table");
-        (returned, own.content().to_vec())
+        let returned = self.call_on(call, call.areas(&[area]));
+        (returned, self.areas().next().unwrap_or_default().to_vec())
+    }
+
+    /// Makes the call on both tables, with areas of these bytes on each side, and compares everything that the call
+    /// could touch. Answers the number returned.
+    pub fn call_on(&mut self, call: Call, areas: &[&[u8]]) -> u32 {
+        assert_eq!(areas.len() + 1, call.sort().lent.len(), "{call:?}: what it is lent");
+        self.before.copy_from_slice(self.proved[0].content());
+        with_areas(&mut self.proved, areas);
+        with_areas(&mut self.reference, areas);
+        let returned = (self.engine)(call, &mut contents(&mut self.proved));
+        let expected = on_reference(call, &mut contents(&mut self.reference));
+        if let Err(what) = self.compare(call, areas, returned, expected) {
+            panic!("{}", self.failure(&what, call, areas, returned, expected));
+        }
+        returned
+    }
+
+    /// The areas as the proved engine left them in the last call.
+    pub fn areas(&self) -> impl Iterator<Item = &[u8]> {
+        self.proved[1..].iter().map(Guarded::content)
+    }
+
+    /// What is wrong with the two outcomes of a call, if anything is.
+    fn compare(&self, call: Call, areas: &[&[u8]], returned: u32, expected: u32) -> Result<(), String> {
+        let sides = || self.proved.iter().zip(&self.reference);
+        let lent = || call.sort().lent.iter().zip(sides());
+        for (bytes, (own, other)) in lent() {
+            keeps(own.guards_stand() && other.guards_stand(), "bytes changed around the", bytes.name())?;
+        }
+        keeps(returned == expected, "the engines differ in the", "number returned")?;
+        let before = once(&self.before[..]).chain(areas.iter().copied());
+        for ((bytes, (own, other)), before) in lent().zip(before) {
+            let kept = own.content() == before;
+            keeps(own.content() == other.content(), "the engines differ in the", bytes.name())?;
+            keeps(kept || returned == 0, "a refused call changed the", bytes.name())?;
+            keeps(kept || bytes.may_change(), "a call that only reads it changed the", bytes.name())?;
+        }
+        Ok(())
     }
 
     /// The call with an area of the exact length. Answers the number returned and, if it is 0, the answer's words.
@@ -170,21 +198,21 @@ impl Pair {
         (returned, if returned == 0 { cases::to_words(&area) } else { Vec::new() })
     }
 
-    fn failure(&self, what: &str, call: Call, area: &[u8], own: (u32, &Lent), other: (u32, &Lent)) -> String {
+    fn failure(&self, what: &str, call: Call, areas: &[&[u8]], returned: u32, expected: u32) -> String {
         let head = cases::to_words(&self.before[..self.before.len().min(8)]);
-        let [proved, reference] = [self.proved.content(), self.reference.content()];
+        let [proved, reference] = [&self.proved, &self.reference].map(|lent| lent[0].content());
         let place = proved.iter().zip(reference).position(|(a, b)| a != b);
+        let shown = |lent: &[Guarded]| lent[1..].iter().map(|area| hex(area.content())).collect::<String>();
         format!(
-            "{what}\n  {}\n  {call:?}, area {}\n  table of {} bytes, n and E {head:?}: {}\n  \
-             proved:    returned {}, area {}\n  reference: returned {}, area {}\n  first difference of the tables: byte {place:?}",
+            "{what}\n  {}\n  {call:?}, areas {}\n  table of {} bytes, n and E {head:?}: {}\n  \
+             proved:    returned {returned}, areas {}\n  reference: returned {expected}, areas {}\n  \
+             first difference of the tables: byte {place:?}",
             self.origin,
-            hex(area),
+            areas.iter().map(|area| hex(area)).collect::<String>(),
             self.before.len(),
             hex(&self.before),
-            own.0,
-            hex(own.1.content()),
-            other.0,
-            hex(other.1.content()),
+            shown(&self.proved),
+            shown(&self.reference),
         )
     }
 }

@@ -1,6 +1,5 @@
 //! Texts of calls for the text program, drawn from a seed.
-use crate::on_reference;
-use cases::{remember, step_or_line, table_length, Call, Rng};
+use cases::{on_reference, remember, step_or_line, table_length, Call, Rng};
 
 pub const END: &[u8] = b"\r\n";
 
@@ -15,15 +14,14 @@ pub struct Calls {
 impl Calls {
     pub fn new(n: u32, e: u32) -> Calls {
         let mut table = vec![0; table_length(n, e)];
-        assert_eq!(reference::fresh(&mut table, n, e), 0, "fresh {n}, {e}");
+        assert_eq!(on_reference(Call::Fresh { n, e }, &mut [&mut table]), 0, "fresh {n}, {e}");
         Calls { n, e, table, known: Vec::new() }
     }
 
     pub fn draw(&mut self, rng: &mut Rng) -> Call {
         let call = step_or_line(rng, self.n, self.e, &self.known);
-        let changes = !matches!(call, Call::Line { .. } | Call::Failed { .. });
         let mut area = vec![0; call.area_length(self.n)];
-        if changes && on_reference(call, &mut self.table, &mut area) == 0 {
+        if !call.only_answers() && on_reference(call, &mut [&mut self.table, &mut area]) == 0 {
             remember(rng, &mut self.known, call, &self.table);
         }
         call

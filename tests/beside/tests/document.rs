@@ -1,8 +1,12 @@
 //! Document 01's own cases and its table of checks. Each number is asserted as the document has it, and every call is
 //! made beside the reference engine.
 use beside::{pair_of_words, Origin, Pair};
+use cases::chosen::{count_into_next_section, full, one_free_at};
+use cases::table::{
+    changed, checkpoint, forced, record, section, words_of_records, A, B, COUNT, KIND, NUMBER, SENDS, WIDTH,
+};
 use cases::Call::{self, Checkpoint, Failed, Fresh, Line, Receipt, Send};
-use cases::{from_words, records, table_length, to_words};
+use cases::{from_records, from_words, records, table_length, to_words};
 
 const ORIGIN: Origin = Origin { test: "document 01", seed: 0, case: 0 };
 const MAX: u32 = u32::MAX;
@@ -104,10 +108,9 @@ fn nine_when_too_few_records_are_free() {
 
 #[test]
 fn ten_on_a_table_that_no_run_makes() {
-    let mut pair = pair_of_words(&[1, 2, 1, 2, 0, 1, 2, 0, 0, 0, 0], ORIGIN);
-    assert_eq!(pair.exact(Checkpoint { p: 0 }).0, 10);
-    let mut pair = pair_of_words(&[1, 2, 1, 1, 0, 1, 1, 0, 0, 0, 0], ORIGIN);
-    assert_eq!(pair.exact(Checkpoint { p: 0 }), (0, vec![2]));
+    let numbered = |number| Pair::new(&from_records(2, &[vec![checkpoint(number)]]), ORIGIN);
+    assert_eq!(numbered(2).exact(Checkpoint { p: 0 }).0, 10);
+    assert_eq!(numbered(1).exact(Checkpoint { p: 0 }), (0, vec![2]));
 }
 
 #[test]
@@ -133,7 +136,7 @@ fn the_three_lengths() {
 }
 
 /// One call of each kind but fresh.
-const CALLS: [Call; 5] = [
+const CALLS: &[Call] = &[
     Checkpoint { p: 0 },
     Send { p: 0, q: 1 },
     Receipt { p: 0, q: 1, k: 1 },
@@ -147,7 +150,7 @@ fn tables_under_eight_bytes() {
         // The bytes that are there begin a good table, or one whose dimensions are out of range.
         for head in [[3, 6], [17, 6], [0, 0]] {
             let table = &from_words(&head)[..length];
-            for call in CALLS {
+            for &call in CALLS {
                 for area in [0, 4, 8, 12, 20] {
                     assert_eq!(Pair::new(table, ORIGIN).call(call, &vec![0; area]).0, 2, "{call:?}");
                 }
@@ -163,7 +166,7 @@ fn tables_under_eight_bytes() {
     // Eight bytes have dimensions: those out of range come first, the length is wrong for all others.
     for (head, returned) in [([3, 6], 2), ([1, 1], 2), ([17, 6], 1), ([0, 1], 1), ([1, 0], 1), ([1, 1025], 1)]
     {
-        for call in CALLS {
+        for &call in CALLS {
             assert_eq!(
                 Pair::new(&from_words(&head), ORIGIN).call(call, &[]).0,
                 returned,
@@ -228,35 +231,10 @@ fn an_equal_number_forces_nothing() {
     assert_eq!(records(pair.table())[1], [[1, 1, 0], [4, 0, 1], [2, 2, 0], [4, 0, 2]]);
 }
 
-/// n = 3, E = 4. Process 0 has no record free and the number 12 = n × E. Its receipts of (1, 2) and (1, 4) are of a
-/// send to another process and of one that isn't there.
-#[rustfmt::skip]
-const FULL: [u32; 47] = [
-    3, 4,
-    4, 12, 0,  1, 12, 0,  4, 1, 1,  4, 1, 2,  4, 1, 4,
-    4, 2, 3,   3, 0, 1,   3, 2, 2,  1, 2, 0,  3, 0, 3,
-    0, 0, 0,   0, 0, 0,   0, 0, 0,  0, 0, 0,  0, 0, 0,
-];
-
-/// FULL with the last record of process 0 unused.
-fn one_free() -> Vec<u32> {
-    let mut words = FULL.to_vec();
-    words[2] = 3;
-    words[14..17].fill(0);
-    words
-}
-
-/// The same again with another number at process 0: 12 meets row 10, 1 is under the number that (1, 3) carries.
-fn one_free_at(number: u32) -> Vec<u32> {
-    let mut words = one_free();
-    (words[3], words[6]) = (number, number);
-    words
-}
-
 /// Tables that meet rows 2, 1, 2 and 3, each all rows of the table that come after as well; then the number.
 fn bad_tables() -> Vec<(Vec<u8>, u32)> {
-    let mut words = FULL.to_vec();
-    words[2] = 5; // c above E
+    let mut words = words_of_records(4, &full());
+    words[section(4, 0) + COUNT] = 5; // c above E
     let laid_badly = from_words(&words);
     let long = [&laid_badly[..], &[0]].concat();
     words[0] = 17;
@@ -268,7 +246,7 @@ fn bad_tables() -> Vec<(Vec<u8>, u32)> {
 /// the next number each time.
 #[test]
 fn the_first_row_met_is_returned() {
-    let full = from_words(&FULL);
+    let full = from_records(4, &full());
     let check = |table: &[u8], call: Call, area: usize, returned: u32| {
         assert_eq!(
             Pair::new(table, ORIGIN).call(call, &vec![0xEE; area]).0,
@@ -287,18 +265,11 @@ fn the_first_row_met_is_returned() {
         for (table, returned) in bad_tables() {
             check(&table, call, 7, returned);
         }
-        for area in [0, 1, 3, 5, 7, 9, 11, 13, 16, 19, 21, 24] {
+        // Areas of another call's length among them.
+        for area in (0..=24).filter(|&area| area != call.area_length(3)) {
             check(&full, call, area, 4);
         }
     }
-    // Areas of another call's length.
-    check(&full, Checkpoint { p: 3 }, 8, 4);
-    check(&full, Send { p: 3, q: 3 }, 4, 4);
-    check(&full, Receipt { p: 3, q: 3, k: 0 }, 4, 4);
-    check(&full, Line { number: 0 }, 8, 4);
-    check(&full, Line { number: 0 }, 20, 4);
-    check(&full, Failed { mask: 8 }, 8, 4);
-    check(&full, Failed { mask: 8 }, 12, 4);
 
     for p in [3, 4, 16, 1 << 31, MAX] {
         check(&full, Checkpoint { p }, 4, 5);
@@ -320,20 +291,20 @@ fn the_first_row_met_is_returned() {
     check(&full, Receipt { p: 0, q: 1, k: 3 }, 8, 9);
     check(&full, Send { p: 0, q: 1 }, 8, 9);
     check(&full, Checkpoint { p: 0 }, 4, 9);
-    check(&from_words(&one_free()), Checkpoint { p: 0 }, 4, 10);
+    check(&one_free_at(12), Checkpoint { p: 0 }, 4, 10);
     for mask in [8, 9, 15, 1 << 16, 1 << 31, MAX] {
         check(&full, Failed { mask }, 20, 11);
     }
 
     // Nothing is met any more.
-    check(&from_words(&one_free_at(11)), Checkpoint { p: 0 }, 4, 0);
-    check(&from_words(&one_free()), Send { p: 0, q: 1 }, 8, 0);
-    check(&from_words(&one_free()), Receipt { p: 0, q: 1, k: 3 }, 8, 0);
+    check(&one_free_at(11), Checkpoint { p: 0 }, 4, 0);
+    check(&one_free_at(12), Send { p: 0, q: 1 }, 8, 0);
+    check(&one_free_at(12), Receipt { p: 0, q: 1, k: 3 }, 8, 0);
     check(&full, Line { number: MAX }, 12, 0);
     check(&full, Failed { mask: 7 }, 20, 0);
     // (1, 3) carries 2: at number 2 it takes the one record that is free, at number 1 it would force.
-    check(&from_words(&one_free_at(2)), Receipt { p: 0, q: 1, k: 3 }, 8, 0);
-    check(&from_words(&one_free_at(1)), Receipt { p: 0, q: 1, k: 3 }, 8, 9);
+    check(&one_free_at(2), Receipt { p: 0, q: 1, k: 3 }, 8, 0);
+    check(&one_free_at(1), Receipt { p: 0, q: 1, k: 3 }, 8, 9);
 }
 
 #[test]
@@ -341,89 +312,83 @@ fn fresh_checks_dimensions_before_the_length() {
     let out =
         [(0, 1), (1, 0), (0, 0), (17, 1), (16, 1025), (1, 1025), (MAX, MAX), (1 << 31, 1), (1, 1 << 31)];
     for (n, e) in out {
-        for length in [0, 7, 8, 20, 32, 33] {
+        for length in [0, 7, 8, 20, table_length(1, 1), table_length(1, 1) + 1] {
             assert_eq!(Pair::new(&vec![0xEE; length], ORIGIN).call(Fresh { n, e }, &[]).0, 1, "{n}, {e}");
         }
     }
     for (n, e) in [(1, 1), (16, 1), (1, 1024), (2, 3), (16, 1024)] {
         let exact = table_length(n, e);
-        for length in [0, 7, 8, exact - 4, exact - 1, exact + 1, exact + 4, exact + 12] {
+        for length in [0, 7, 8, exact - 4, exact - 1, exact + 1, exact + 4, exact + 4 * WIDTH] {
             assert_eq!(Pair::new(&vec![0xEE; length], ORIGIN).call(Fresh { n, e }, &[]).0, 2, "{n}, {e}");
         }
         assert_eq!(Pair::new(&vec![0xEE; exact], ORIGIN).call(Fresh { n, e }, &[]).0, 0);
     }
 }
 
-/// Document 01's sentence on well laid tables, clause by clause: word i of the worked controller's table changed to v.
+/// Document 01's sentence on well laid tables, clause by clause: words of the worked controller's table changed.
 #[test]
 fn each_clause_of_well_laid() {
     let worked = to_words(worked_controller().table());
-    let with = |changes: &[(usize, u32)]| {
-        let mut words = worked.clone();
-        for &(i, v) in changes {
-            words[i] = v;
-        }
-        pair_of_words(&words, ORIGIN)
-    };
-    // Sections start at words 2, 23 and 44; the records follow three words later.
-    let bad: [&[(usize, u32)]; 27] = [
-        &[(2, 7)], // c above E
-        &[(2, MAX)],
-        &[(2, 3)], // a used record of kind 0
-        &[(2, 1)], // an unused record that isn't 0
-        &[(5, 0)], // kinds that aren't in the table
-        &[(5, 5)],
-        &[(5, 1 << 24 | 1)],
-        &[(6, 19), (3, 19)], // a checkpoint number above n × E
-        &[(47, 0xFFFF_FFFF), (45, 0xFFFF_FFFF)],
-        &[(7, 1)], // a checkpoint's b isn't 0
-        &[(49, 1)],
-        &[(9, 0)], // a send to its own process
-        &[(9, 3)], // a send to a process that isn't there
-        &[(9, MAX)],
-        &[(10, 0)], // send numbers that aren't the send's place
-        &[(10, 2)],
-        &[(37, 1)],
-        &[(28, 2), (37, 1)],
-        &[(33, 1)], // a receipt from its own process
-        &[(33, 3)], // a receipt from a process that isn't there
-        &[(34, 0)], // a receipt's send number outside 1 to E
-        &[(34, 7)],
-        &[(3, 0)], // the current number isn't the last checkpoint's
-        &[(45, 2)],
-        &[(25, 1)], // the send count isn't the number of sends
-        &[(46, 1)],
-        &[(64, 1)], // the last word of the last unused record
+    let with = |changes: &[(usize, u32)]| pair_of_words(&changed(&worked, changes), ORIGIN);
+    let heading = |p: u32, word: usize| section(6, p) + word;
+    // Places are counted from 1, as in the document.
+    let place = |p: u32, t: u32, word: usize| record(6, p, t - 1) + word;
+    let bad: &[&[(usize, u32)]] = &[
+        &[(heading(0, COUNT), 7)], // c above E
+        &[(heading(0, COUNT), MAX)],
+        &[(heading(0, COUNT), 3)], // a used record of kind 0
+        &[(heading(0, COUNT), 1)], // an unused record that isn't 0
+        &[(place(0, 1, KIND), 0)], // kinds that aren't in the table
+        &[(place(0, 1, KIND), 5)],
+        &[(place(0, 1, KIND), 1 << 24 | 1)],
+        &[(place(2, 1, KIND), MAX)],
+        &[(place(0, 1, A), 19), (heading(0, NUMBER), 19)], // a checkpoint number above n × E
+        &[(place(2, 1, A), MAX), (heading(2, NUMBER), MAX)],
+        &[(place(0, 1, B), 1)], // a checkpoint's b isn't 0
+        &[(place(2, 1, B), 1)],
+        &[(place(0, 2, A), 0)], // a send to its own process
+        &[(place(0, 2, A), 3)], // a send to a process that isn't there
+        &[(place(0, 2, A), MAX)],
+        &[(place(0, 2, B), 0)], // send numbers that aren't the send's place
+        &[(place(0, 2, B), 2)],
+        &[(place(1, 4, B), 1)],
+        &[(place(1, 1, B), 2), (place(1, 4, B), 1)],
+        &[(place(1, 3, A), 1)], // a receipt from its own process
+        &[(place(1, 3, A), 3)], // a receipt from a process that isn't there
+        &[(place(1, 3, B), 0)], // a receipt's send number outside 1 to E
+        &[(place(1, 3, B), 7)],
+        &[(heading(0, NUMBER), 0)], // the current number isn't the last checkpoint's
+        &[(heading(2, NUMBER), 2)],
+        &[(heading(1, SENDS), 1)], // the send count isn't the number of sends
+        &[(heading(2, SENDS), 1)],
+        &[(worked.len() - 1, 1)], // the last word of the last unused record
     ];
-    for changes in bad {
-        for call in CALLS {
+    for &changes in bad {
+        for &call in CALLS {
             assert_eq!(with(changes).exact(call).0, 3, "{changes:?}, {call:?}");
         }
     }
-    // c above E where the next section's head would pass for a record.
-    let over = [2, 2, 3, 1, 0, 1, 1, 0, 2, 1, 0, 1, 1, 0, 1, 1, 0, 0, 0, 0];
+    let over = count_into_next_section();
     assert_eq!(pair_of_words(&over, ORIGIN).exact(Line { number: 1 }).0, 3);
     assert_eq!(pair_of_words(&over, ORIGIN).exact(Failed { mask: 1 }).0, 3);
     // What no run makes and well laid allows.
-    let good: [&[(usize, u32)]; 7] = [
-        &[(6, 18), (3, 18)],          // a number of n × E
-        &[(6, 0), (3, 0)],            // a number of 0
-        &[(5, 2)],                    // a forced checkpoint anywhere
-        &[(34, 6)],                   // a receipt without its send
-        &[(33, 2)],                   // a receipt from a process that sent nothing
-        &[(53, 4), (54, 1), (55, 2)], // the same receipt twice
-        &[(9, 2)],                    // a send whose receipt another process has
+    let good: &[&[(usize, u32)]] = &[
+        &[(place(0, 1, A), 18), (heading(0, NUMBER), 18)], // a number of n × E
+        &[(place(0, 1, A), 0), (heading(0, NUMBER), 0)],   // a number of 0
+        &[(place(0, 1, KIND), 2)],                         // a forced checkpoint anywhere
+        &[(place(1, 3, B), 6)],                            // a receipt without its send
+        &[(place(1, 3, A), 2)],                            // a receipt from a process that sent nothing
+        &[(place(2, 3, KIND), 4), (place(2, 3, A), 1), (place(2, 3, B), 2)], // the same receipt twice
+        &[(place(0, 2, A), 2)],                            // a send whose receipt another process has
     ];
-    for changes in good {
+    for &changes in good {
         assert_eq!(with(changes).exact(Line { number: 0 }), (0, vec![0, 0, 0]), "{changes:?}");
         assert_eq!(with(changes).exact(Failed { mask: 7 }).0, 0, "{changes:?}");
     }
     // Current number and send count are those of the last and not of the largest or first.
-    let falling = [1, 3, 2, 1, 0, 1, 3, 0, 2, 1, 0, 0, 0, 0];
+    let falling = words_of_records(3, &[vec![checkpoint(3), forced(1)]]);
     assert_eq!(pair_of_words(&falling, ORIGIN).exact(Checkpoint { p: 0 }), (0, vec![2]));
     assert_eq!(pair_of_words(&falling, ORIGIN).exact(Line { number: 1 }), (0, vec![1]));
-    assert_eq!(
-        pair_of_words(&[1, 3, 2, 3, 0, 1, 3, 0, 2, 1, 0, 0, 0, 0], ORIGIN).exact(Line { number: 1 }).0,
-        3
-    );
+    let largest = changed(&falling, &[(section(3, 0) + NUMBER, 3)]);
+    assert_eq!(pair_of_words(&largest, ORIGIN).exact(Line { number: 1 }).0, 3);
 }

@@ -1,7 +1,8 @@
 //! Failure lines. Each is asked for beside the reference engine and compared with `History::lowered`, those of small
 //! tables also with all permitted cuts.
-use beside::cuts::{tuples, History, Record, CHECKPOINT, FORCED, RECEIPT, SEND};
+use beside::cuts::{tuples, History};
 use beside::{on_proved, seed, Origin, Pair};
+use cases::table::{checkpoint, forced, receipt, send, Record, A, B, KIND, RECEIPT, SEND};
 use cases::Call::{self, Failed, Fresh};
 use cases::{from_records, records, remember, step, table_length, well_laid, Rng};
 use std::fmt;
@@ -74,7 +75,7 @@ struct Run {
 impl Run {
     fn new(n: u32, e: u32, recent: usize) -> Run {
         let mut table = vec![0xEE; table_length(n, e)];
-        assert_eq!(on_proved(Fresh { n, e }, &mut table, &mut []), 0);
+        assert_eq!(on_proved(Fresh { n, e }, &mut [&mut table]), 0);
         Run { table, known: Vec::new(), recent }
     }
 
@@ -83,7 +84,7 @@ impl Run {
             let recent = &self.known[self.known.len().saturating_sub(self.recent)..];
             let call = step(rng, n, e, recent);
             let mut area = vec![0xEE; call.area_length(n)];
-            if on_proved(call, &mut self.table, &mut area) == 0 {
+            if on_proved(call, &mut [&mut self.table, &mut area]) == 0 {
                 remember(rng, &mut self.known, call, &self.table);
             }
         }
@@ -105,12 +106,12 @@ fn linked(rng: &mut Rng, n: u32, e: u32) -> Vec<u8> {
     let mut sections: Vec<Vec<Record>> = (0..n).map(|p| unlinked(rng, n, e, p, checkpoints)).collect();
     for p in 0..n as usize {
         for t in 0..sections[p].len() {
-            let [kind, q, _] = sections[p][t];
-            if kind == RECEIPT {
+            let q = sections[p][t][A];
+            if sections[p][t][KIND] == RECEIPT {
                 let until = if rng.one_in(e) { e } else { (t as u32).saturating_sub(delay) };
                 let sent = some_send(rng, &sections[q as usize][..until as usize], p as u32);
                 let k = if rng.one_in(n * e) { Some(1 + rng.below(e)) } else { sent };
-                sections[p][t] = k.map_or([CHECKPOINT, 0, 0], |k| [RECEIPT, q, k]);
+                sections[p][t] = k.map_or(checkpoint(0), |k| receipt(q, k));
             }
         }
     }
@@ -122,22 +123,22 @@ fn unlinked(rng: &mut Rng, n: u32, e: u32, p: u32, checkpoints: u32) -> Vec<Reco
     let mut sends = 0;
     let record = |t: u32| {
         if n == 1 || rng.one_in(checkpoints) {
-            return [rng.pick(&[CHECKPOINT, FORCED]), n * e - t, 0];
+            return rng.pick(&[checkpoint, forced])(n * e - t);
         }
         let other = (p + 1 + rng.below(n - 1)) % n;
         if rng.one_in(2) {
-            return [RECEIPT, other, 0];
+            return receipt(other, 0);
         }
         sends += 1;
-        [SEND, other, sends]
+        send(other, sends)
     };
     (0..e).map(record).collect()
 }
 
 /// The number of one of the last three sends to p among these records.
 fn some_send(rng: &mut Rng, records: &[Record], p: u32) -> Option<u32> {
-    let last: Vec<u32> =
-        records.iter().rev().filter(|r| r[0] == SEND && r[1] == p).take(3).map(|r| r[2]).collect();
+    let sends = records.iter().rev().filter(|r| r[KIND] == SEND && r[A] == p);
+    let last: Vec<u32> = sends.take(3).map(|r| r[B]).collect();
     (!last.is_empty()).then(|| rng.pick(&last))
 }
 
@@ -190,11 +191,11 @@ fn the_latest_of_all_permitted_cuts() {
 /// The sections of process p that have one record more than this one. Numbers of checkpoints fall.
 fn longer(n: u32, e: u32, p: u32, section: &[Record]) -> Vec<Vec<Record>> {
     let number = n * e - section.len() as u32;
-    let send = 1 + section.iter().filter(|r| r[0] == SEND).count() as u32;
-    let mut next = vec![[CHECKPOINT, number, 0], [FORCED, number, 0]];
+    let sends = section.iter().filter(|r| r[KIND] == SEND).count() as u32;
+    let mut next = vec![checkpoint(number), forced(number)];
     for other in (0..n).filter(|&q| q != p) {
-        next.push([SEND, other, send]);
-        next.extend((1..=e).map(|k| [RECEIPT, other, k]));
+        next.push(send(other, sends + 1));
+        next.extend((1..=e).map(|k| receipt(other, k)));
     }
     next.into_iter().map(|record| [section, &[record]].concat()).collect()
 }
@@ -265,9 +266,9 @@ fn random_masks_on_the_largest_tables() {
 fn ring(e: u32, m: u32, checkpoint_first: bool) -> Vec<u8> {
     let step = |p: u32, i: u32| {
         let k = if p == m - 1 { i } else { i - 1 };
-        let receipt = (k > 0).then_some([RECEIPT, (p + 1) % m, k]);
-        let checkpoint = Some([CHECKPOINT, i, 0]);
-        let send = Some([SEND, (p + m - 1) % m, i]);
+        let receipt = (k > 0).then(|| receipt((p + 1) % m, k));
+        let checkpoint = Some(checkpoint(i));
+        let send = Some(send((p + m - 1) % m, i));
         let step = if checkpoint_first { [checkpoint, receipt, send] } else { [receipt, checkpoint, send] };
         step.into_iter().flatten()
     };
@@ -320,7 +321,7 @@ fn a_fall_of_more_rounds_than_records() {
 fn eleven_for_a_bit_at_n_or_above() {
     for (n, e) in (1..=16u32).flat_map(|n| [(n, 2), (n, 1024)]) {
         let count = n.min(2);
-        let section = |p| [[CHECKPOINT, 1, 0], [SEND, (p + 1) % n, 1]][..count as usize].to_vec();
+        let section = |p| [checkpoint(1), send((p + 1) % n, 1)][..count as usize].to_vec();
         let table = from_records(e, &(0..n).map(section).collect::<Vec<_>>());
         let mut pair = Pair::new(&table, Origin { test: "number 11", seed: 0, case: n.into() });
         let all = (1u32 << n) - 1;

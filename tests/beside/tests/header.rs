@@ -1,18 +1,25 @@
-//! include/ckpt.h lists with each call the numbers that it can return, in the order in which it checks.
-use beside::drawn::{NAMES, NUMBERS};
+//! include/ckpt.h declares the calls, and lists with each the numbers that it can return, in the order in which it checks.
+use cases::calls::{numbers, Sort, CALLS};
 
 const HEADER: &str = include_str!("../../../include/ckpt.h");
 
-/// The header's names for the numbers 0 to 11, by number.
+/// The header's names for the numbers from 0 on, by number.
 fn names() -> Vec<&'static str> {
     let defined = |line: &'static str| {
         let mut words = line.strip_prefix("#define ")?.split_whitespace();
         let (name, value) = (words.next()?, words.next()?.strip_suffix('u')?);
-        (!name.starts_with("CKPT_MAX_")).then_some((value.parse::<usize>().ok()?, name))
+        (!name.starts_with("CKPT_MAX_")).then_some((value.parse::<u32>().ok()?, name))
     };
-    let (numbers, names): (Vec<_>, Vec<_>) = HEADER.lines().filter_map(defined).unzip();
-    assert_eq!(numbers, (0..12).collect::<Vec<_>>());
+    let (named, names): (Vec<_>, Vec<_>) = HEADER.lines().filter_map(defined).unzip();
+    assert!(named.iter().copied().eq(0..names.len() as u32), "{named:?}");
+    assert!(numbers().iter().eq(&named), "{named:?}");
     names
+}
+
+/// The calls that the header declares.
+fn declared() -> Vec<&'static str> {
+    let call = |line: &'static str| Some(line.strip_prefix("uint32_t ckpt_")?.split_once('(')?.0);
+    HEADER.lines().filter_map(call).collect()
 }
 
 /// The names that the comment before a call lists.
@@ -24,20 +31,23 @@ fn listed(call: &str) -> Vec<&'static str> {
     list.split(',').map(str::trim).collect()
 }
 
-/// Document 01's rows from the top; fresh has no check for 8 bytes before that of the dimensions.
-fn in_order(call: &str) -> [usize; 12] {
-    if call == "fresh" {
-        [1, 2, 3, 4, 5, 6, 7, 8, 9, 10, 11, 0]
-    } else {
-        [2, 1, 3, 4, 5, 6, 7, 8, 9, 10, 11, 0]
+/// The numbers that a call can return, each where it is checked first, and 0 last.
+fn in_order(call: &Sort) -> Vec<u32> {
+    let mut numbers = Vec::new();
+    for &number in call.rows.iter().chain(&[0]) {
+        if !numbers.contains(&number) {
+            numbers.push(number);
+        }
     }
+    numbers
 }
 
 #[test]
 fn the_header_lists_every_number_that_a_call_returns() {
     let names = names();
-    for (call, numbers) in NAMES.iter().zip(NUMBERS) {
-        let returned = in_order(call).into_iter().filter(|number| numbers.contains(number));
-        assert_eq!(listed(call), returned.map(|number| names[number]).collect::<Vec<_>>(), "{call}");
+    assert_eq!(declared(), CALLS.iter().map(|call| call.name).collect::<Vec<_>>());
+    for call in CALLS {
+        let returned: Vec<_> = in_order(call).iter().map(|&number| names[number as usize]).collect();
+        assert_eq!(listed(call.name), returned, "{}", call.name);
     }
 }

@@ -1,6 +1,7 @@
 //! More than a million random calls, drawn as in `beside::drawn`, each made beside the reference engine.
-use beside::drawn::{large, middle, run_case, small, Case, Dimensions, Tally, NAMES, NUMBERS};
+use beside::drawn::{large, middle, run_case, small, Case, Dimensions, Tally};
 use beside::{on_proved, seed, Origin, Pair};
+use cases::calls::CALLS;
 
 /// Draws cases of these dimensions until as many calls were made.
 fn draw(test: &'static str, calls: u64, dimensions: Dimensions, tally: &mut Tally) {
@@ -21,8 +22,8 @@ fn random_calls() {
     println!("random calls: {} with CKPT_SEED={}\n{tally}", tally.total(), seed());
     println!("of these on tables with n = 16, E = 1024: {}", tally.largest);
     assert!(tally.total() >= 1_000_000 && tally.largest >= 1_000);
-    for (row, numbers) in NUMBERS.iter().enumerate() {
-        assert_eq!(tally.met(row), *numbers, "numbers that {} returned", NAMES[row]);
+    for call in CALLS {
+        assert_eq!(tally.met(call.name), call.numbers(), "numbers that {} returned", call.name);
     }
 }
 
@@ -38,5 +39,6 @@ fn long_runs() {
         assert!(full, "the run left records free: {origin}");
     }
     println!("long runs: {} calls with CKPT_SEED={}\n{tally}", tally.total(), seed());
-    assert!(tally.counts[3][0] > 500 && tally.counts[3][9] > 0 && tally.counts[3][8] > 0);
+    let receipts = |number| tally.count("receipt", number);
+    assert!(receipts(0) > 500 && receipts(9) > 0 && receipts(8) > 0);
 }

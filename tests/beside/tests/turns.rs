@@ -2,6 +2,7 @@
 //! and the numbered lines after a list have no orphan.
 use beside::cuts::has_orphan;
 use beside::{seed, Origin, Pair};
+use cases::table::{FORCED, KIND};
 use cases::{area_length, records, remember, step, Call, Rng};
 
 /// How many lists each test draws.
@@ -65,7 +66,7 @@ impl Run {
 fn process(call: Call) -> usize {
     match call {
         Call::Checkpoint { p } | Call::Send { p, .. } | Call::Receipt { p, .. } => p as usize,
-        Call::Fresh { .. } | Call::Line { .. } | Call::Failed { .. } => panic!("no step: {call:?}"),
+        _ => panic!("no step: {call:?}"),
     }
 }
 
@@ -189,7 +190,7 @@ fn numbered_lines_after_a_list_have_no_orphan() {
         let (n, e) = dimensions(&mut rng);
         let mut run = Run::random(&mut rng, n, e, origin);
         let sections = records(run.pair.table());
-        forced += sections.iter().flatten().filter(|r| r[0] == 2).count();
+        forced += sections.iter().flatten().filter(|r| r[KIND] == FORCED).count();
         for number in (0..=n * e + 1).chain([1 << 31, u32::MAX]) {
             let (returned, cut) = run.pair.exact(Call::Line { number });
             assert_eq!(returned, 0, "{origin}");

@@ -1,4 +1,13 @@
 //! Calls, numbers and tables to try engines on, drawn from a seed.
+pub mod calls;
+pub mod chosen;
+pub mod table;
+
+pub use calls::{on_reference, Call};
+use table::{
+    checkpoint, forced, receipt, record, section, send, A, B, HEAD, HEADING, KIND, SEND, SENDS, WIDTH,
+};
+pub use table::{from_records, from_words, records, table_length, to_words};
 
 /// splitmix64: the same seed draws the same cases everywhere.
 pub struct Rng(u64);
@@ -63,81 +72,12 @@ impl Rng {
     }
 }
 
-#[derive(Clone, Copy, Debug, PartialEq, Eq)]
-pub enum Call {
-    Fresh { n: u32, e: u32 },
-    Checkpoint { p: u32 },
-    Send { p: u32, q: u32 },
-    Receipt { p: u32, q: u32, k: u32 },
-    Line { number: u32 },
-    Failed { mask: u32 },
-}
-
-impl Call {
-    /// The exact length of the answer area, for a table of n processes.
-    pub fn area_length(self, n: u32) -> usize {
-        match self {
-            Call::Fresh { .. } => 0,
-            Call::Checkpoint { .. } => 4,
-            Call::Send { .. } | Call::Receipt { .. } => 8,
-            Call::Line { .. } => 4 * n as usize,
-            Call::Failed { .. } => 4 * n as usize + 8,
-        }
-    }
-
-    /// The call as a line of the text program has it, without the line's end.
-    pub fn text(self) -> String {
-        match self {
-            Call::Fresh { n, e } => format!("fresh,{n},{e},"),
-            Call::Checkpoint { p } => format!("checkpoint,{p},,"),
-            Call::Send { p, q } => format!("send,{p},{q},"),
-            Call::Receipt { p, q, k } => format!("receipt,{p},{q},{k}"),
-            Call::Line { number } => format!("line,{number},,"),
-            Call::Failed { mask } => format!("failed,{mask},,"),
-        }
-    }
-}
-
-pub fn table_length(n: u32, e: u32) -> usize {
-    8 + 12 * n as usize * (e as usize + 1)
-}
-
-pub fn from_words(words: &[u32]) -> Vec<u8> {
-    words.iter().flat_map(|w| w.to_be_bytes()).collect()
-}
-
-/// The whole words of the bytes; a remainder under four bytes is left out.
-pub fn to_words(bytes: &[u8]) -> Vec<u32> {
-    bytes.chunks_exact(4).map(|w| u32::from_be_bytes([w[0], w[1], w[2], w[3]])).collect()
-}
-
-/// The used records of each section of a well laid table.
-pub fn records(table: &[u8]) -> Vec<Vec<[u32; 3]>> {
-    let words = to_words(table);
-    let section =
-        |s: &[u32]| s[3..].chunks_exact(3).take(s[0] as usize).map(|r| [r[0], r[1], r[2]]).collect();
-    words[2..].chunks_exact(3 + 3 * words[1] as usize).map(section).collect()
-}
-
-/// The well laid table of these records, E for each process: the inverse of `records`.
-pub fn from_records(e: u32, sections: &[Vec<[u32; 3]>]) -> Vec<u8> {
-    let mut words = vec![sections.len() as u32, e];
-    for records in sections {
-        let number = records.iter().rev().find(|r| r[0] <= 2).map_or(0, |r| r[1]);
-        let sends = records.iter().filter(|r| r[0] == 3).count();
-        words.extend([records.len() as u32, number, sends as u32]);
-        words.extend(records.iter().flatten());
-        words.resize(words.len() + 3 * (e as usize - records.len()), 0);
-    }
-    from_words(&words)
-}
-
 /// The receipt of every message sent in a well laid table, received or not.
 pub fn messages(table: &[u8]) -> Vec<Call> {
     let mut receipts = Vec::new();
     for (q, records) in records(table).iter().enumerate() {
-        let sends = records.iter().filter(|r| r[0] == 3);
-        receipts.extend(sends.map(|r| Call::Receipt { p: r[1], q: q as u32, k: r[2] }));
+        let sends = records.iter().filter(|r| r[KIND] == SEND);
+        receipts.extend(sends.map(|r| Call::Receipt { p: r[A], q: q as u32, k: r[B] }));
     }
     receipts
 }
@@ -147,8 +87,8 @@ pub fn messages(table: &[u8]) -> Vec<Call> {
 pub fn remember(rng: &mut Rng, known: &mut Vec<Call>, call: Call, table: &[u8]) {
     match call {
         Call::Send { p, q } => {
-            let e = to_words(&table[..8])[1] as usize;
-            let sends = 4 * (2 + p as usize * (3 + 3 * e) + 2);
+            let e = to_words(&table[..4 * HEAD])[1];
+            let sends = 4 * (section(e, p) + SENDS);
             known.push(Call::Receipt { p: q, q: p, k: to_words(&table[sends..sends + 4])[0] });
         }
         Call::Receipt { .. } if !rng.one_in(4) => {
@@ -211,7 +151,7 @@ pub fn area_length(rng: &mut Rng, exact: usize) -> usize {
 /// A well laid table, but mostly one that no run makes: checkpoint numbers fall, repeat, are 0 or n × E, forced
 /// checkpoints stand anywhere, receipts repeat, lack their send or are of a send to another process.
 pub fn well_laid(rng: &mut Rng, n: u32, e: u32) -> Vec<u8> {
-    let mut words = vec![n, e];
+    let mut sections = Vec::new();
     for p in 0..n {
         let count = match rng.below(4) {
             0 => e,
@@ -219,10 +159,10 @@ pub fn well_laid(rng: &mut Rng, n: u32, e: u32) -> Vec<u8> {
             _ => rng.below(e + 1),
         };
         let (mut number, mut sends) = (0, 0);
-        let mut section = Vec::with_capacity(3 * e as usize);
+        let mut records = Vec::with_capacity(count as usize);
         for _ in 0..count {
             let other = if n == 1 { 0 } else { (p + 1 + rng.below(n - 1)) % n };
-            let record = match rng.below(if n == 1 { 3 } else { 10 }) {
+            records.push(match rng.below(if n == 1 { 3 } else { 10 }) {
                 kind @ 0..=2 => {
                     number = match rng.below(6) {
                         0 => 0,
@@ -232,37 +172,34 @@ pub fn well_laid(rng: &mut Rng, n: u32, e: u32) -> Vec<u8> {
                         4 => rng.below(n * e + 1),
                         _ => (number + 1).min(n * e),
                     };
-                    [1 + kind % 2, number, 0]
+                    [checkpoint, forced][kind as usize % 2](number)
                 }
                 3..=6 => {
                     sends += 1;
-                    [3, other, sends]
+                    send(other, sends)
                 }
                 _ => {
                     let top = rng.pick(&[e, e.min(4), e.min(4)]);
-                    [4, other, 1 + rng.below(top)]
+                    receipt(other, 1 + rng.below(top))
                 }
-            };
-            section.extend(record);
+            });
         }
-        section.resize(3 * e as usize, 0);
-        words.extend([count, number, sends]);
-        words.extend(section);
+        sections.push(records);
     }
-    from_words(&words)
+    from_records(e, &sections)
 }
 
-/// Changes one to three places: a byte, or a word of the head, of a section's head, of a record, used or not.
+/// Changes one to three places: a byte, or a word of the head, of a section's heading, of a record, used or not.
 pub fn damage(rng: &mut Rng, table: &mut [u8], n: u32, e: u32) {
     for _ in 0..1 + rng.below(3) {
-        let section = 2 + rng.below(n) * (3 + 3 * e);
-        let word = match rng.below(12) {
-            0 => rng.below(2),
-            1..=4 => section + rng.below(3),
-            5..=7 => section + 3 + rng.below(3 * e.min(4)),
-            _ => section + 3 + rng.below(3 * e),
+        let p = rng.below(n);
+        let (first, words) = match rng.below(12) {
+            0 => (0, HEAD),
+            1..=4 => (section(e, p), HEADING),
+            5..=7 => (record(e, p, 0), WIDTH * e.min(4) as usize),
+            _ => (record(e, p, 0), WIDTH * e as usize),
         };
-        let at = 4 * word as usize;
+        let at = 4 * (first + rng.below(words as u32) as usize);
         if rng.one_in(3) {
             let byte = at + rng.below(4) as usize;
             table[byte] ^= 1 << rng.below(8);

@@ -1,8 +1,16 @@
 //! Prints crates/vectors/specs/Vectors.antt: scripts of calls with the outcomes that the reference engine gives, as
 //! definitions and theorems that hold the rules to them. With the word `text` it prints TextVectors.antt instead.
-use cases::{
-    area_length, from_words, messages, remember, step, table_length, to_words, well_laid, Call, Rng,
+use cases::calls::numbers;
+use cases::chosen::{count_into_next_section, full, one_free_at};
+use cases::table::{
+    changed, checkpoint, forced, receipt, record, section, send, words_of_records, Record, A, B, COUNT, KIND,
+    NUMBER, SENDS,
 };
+use cases::{
+    area_length, from_records, from_words, messages, on_reference, remember, step, table_length, to_words,
+    well_laid, Call, Rng,
+};
+use std::collections::BTreeSet;
 use std::env;
 
 mod text;
@@ -64,7 +72,8 @@ fn wrapped(start: &str, pieces: &[String]) -> String {
 struct File {
     text: String,
     tables: Vec<Vec<u8>>,
-    met: [bool; 12],
+    /// The numbers that calls returned.
+    met: BTreeSet<u32>,
 }
 
 impl File {
@@ -124,7 +133,7 @@ struct Step {
 
 impl Step {
     fn text(&self, file: &mut File) -> String {
-        file.met[self.returned as usize] = true;
+        file.met.insert(self.returned);
         let (ask, area) = (&self.ask, self.area);
         if self.returned == 0 {
             let after = file.table(&self.after);
@@ -134,6 +143,18 @@ impl Step {
         } else {
             format!("refused ({ask}) {area} {}", self.returned)
         }
+    }
+}
+
+/// The call as antt has it.
+fn ask(call: Call) -> String {
+    match call {
+        Call::Fresh { n, e } => format!("fresh {n} {e}"),
+        Call::Checkpoint { p } => format!("step {p} checkpoint"),
+        Call::Send { p, q } => format!("step {p} (send {q})"),
+        Call::Receipt { p, q, k } => format!("step {p} (receipt {q} {k})"),
+        Call::Line { number } => format!("line {number}"),
+        Call::Failed { mask } => format!("failed {mask}"),
     }
 }
 
@@ -153,6 +174,10 @@ impl Script {
         Script::on(&from_words(words))
     }
 
+    fn records(e: u32, sections: &[Vec<Record>]) -> Script {
+        Script::on(&from_records(e, sections))
+    }
+
     /// On bytes that are no table, with fresh as the first step.
     fn fresh(n: u32, e: u32) -> Script {
         let mut script = Script::on(&vec![0xFF; table_length(n, e)]);
@@ -164,37 +189,16 @@ impl Script {
         to_words(&self.table)[0]
     }
 
-    fn add(&mut self, ask: String, length: usize, run: impl FnOnce(&mut [u8], &mut [u8]) -> u32) -> u32 {
+    fn call(&mut self, call: Call, length: usize) -> u32 {
         let before = self.table.clone();
         let mut area = vec![0xFF; length];
-        let returned = run(&mut self.table, &mut area);
+        let lent = &mut [&mut self.table[..], &mut area];
+        let returned = on_reference(call, &mut lent[..call.sort().lent.len()]);
         // `refused` says that table and area stay as they were.
         assert!(returned == 0 || (self.table == before && area == vec![0xFF; length]));
         let (answer, after) = (to_words(&area), self.table.clone());
-        self.steps.push(Step { ask, area: length, returned, answer, after });
+        self.steps.push(Step { ask: ask(call), area: length, returned, answer, after });
         returned
-    }
-
-    fn call(&mut self, call: Call, area: usize) -> u32 {
-        match call {
-            Call::Fresh { n, e } => {
-                self.add(format!("fresh {n} {e}"), area, |table, _| reference::fresh(table, n, e))
-            }
-            Call::Checkpoint { p } => {
-                self.add(format!("step {p} checkpoint"), area, |t, a| reference::checkpoint(t, a, p))
-            }
-            Call::Send { p, q } => {
-                self.add(format!("step {p} (send {q})"), area, |t, a| reference::send(t, a, p, q))
-            }
-            Call::Receipt { p, q, k } => self
-                .add(format!("step {p} (receipt {q} {k})"), area, |t, a| reference::receipt(t, a, p, q, k)),
-            Call::Line { number } => {
-                self.add(format!("line {number}"), area, |t, a| reference::line(t, a, number))
-            }
-            Call::Failed { mask } => {
-                self.add(format!("failed {mask}"), area, |t, a| reference::failed(t, a, mask))
-            }
-        }
     }
 
     fn exact(&mut self, call: Call) -> u32 {
@@ -272,52 +276,53 @@ fn random_well_laid(rng: &mut Rng, n: u32, e: u32, steps: u32) -> Script {
 }
 
 /// n = 2, E = 2: a checkpoint and a send at process 0, a receipt at process 1.
-const GOOD: [u32; 20] = [2, 2, 2, 1, 1, 1, 1, 0, 3, 1, 1, 1, 0, 0, 4, 0, 1, 0, 0, 0];
+fn good() -> Vec<u32> {
+    words_of_records(2, &[vec![checkpoint(1), send(1, 1)], vec![receipt(0, 1)]])
+}
 
-/// GOOD with some words changed so that it isn't well laid, for each clause of document 01's sentence.
+/// The same with some words changed so that it isn't well laid, for each clause of document 01's sentence.
 fn badly_laid() -> Vec<Script> {
-    let changes: [&[(usize, u32)]; 25] = [
-        &[(2, 3)], // c above E
-        &[(2, 1 << 8)],
-        // c above E where the next section's head would pass for a record
-        &[(2, 3), (4, 0), (8, 2), (10, 0), (12, 1), (14, 1), (15, 1), (16, 0)],
-        &[(11, 2)],        // a used record of kind 0
-        &[(2, 1), (4, 0)], // an unused record that isn't 0
-        &[(17, 1)],
-        &[(18, 1)],
-        &[(19, 1)],
-        &[(5, 5)], // a kind that isn't in the table
-        &[(14, 1 << 24)],
-        &[(6, 5), (3, 5)], // a number above n × E
-        &[(7, 1)],         // a checkpoint's b isn't 0
-        &[(5, 2), (7, 1)],
-        &[(9, 0)],  // a send to its own process
-        &[(9, 2)],  // a send to a process that isn't there
-        &[(10, 0)], // a send number that isn't the send's place
-        &[(10, 2)],
-        &[(15, 1)], // a receipt from its own process
-        &[(15, 2)], // a receipt from a process that isn't there
-        &[(16, 0)], // a receipt's send number outside 1 to E
-        &[(16, 3)],
-        &[(3, 0)], // the current number isn't the last checkpoint's
-        &[(12, 1)],
-        &[(4, 0)], // the send count isn't the number of sends
-        &[(13, 1)],
+    let heading = |p: u32, word: usize| section(2, p) + word;
+    // Places are counted from 1, as in the document.
+    let place = |p: u32, t: u32, word: usize| record(2, p, t - 1) + word;
+    let changes: &[&[(usize, u32)]] = &[
+        &[(heading(0, COUNT), 3)], // c above E
+        &[(heading(0, COUNT), 1 << 8)],
+        &[(heading(1, COUNT), 2)],                         // a used record of kind 0
+        &[(heading(0, COUNT), 1), (heading(0, SENDS), 0)], // an unused record that isn't 0
+        &[(place(1, 2, KIND), 1)],
+        &[(place(1, 2, A), 1)],
+        &[(place(1, 2, B), 1)],
+        &[(place(0, 1, KIND), 5)], // a kind that isn't in the table
+        &[(place(1, 1, KIND), 1 << 24)],
+        &[(place(0, 1, A), 5), (heading(0, NUMBER), 5)], // a number above n × E
+        &[(place(0, 1, B), 1)],                          // a checkpoint's b isn't 0
+        &[(place(0, 1, KIND), 2), (place(0, 1, B), 1)],
+        &[(place(0, 2, A), 0)], // a send to its own process
+        &[(place(0, 2, A), 2)], // a send to a process that isn't there
+        &[(place(0, 2, B), 0)], // a send number that isn't the send's place
+        &[(place(0, 2, B), 2)],
+        &[(place(1, 1, A), 1)], // a receipt from its own process
+        &[(place(1, 1, A), 2)], // a receipt from a process that isn't there
+        &[(place(1, 1, B), 0)], // a receipt's send number outside 1 to E
+        &[(place(1, 1, B), 3)],
+        &[(heading(0, NUMBER), 0)], // the current number isn't the last checkpoint's
+        &[(heading(1, NUMBER), 1)],
+        &[(heading(0, SENDS), 0)], // the send count isn't the number of sends
+        &[(heading(1, SENDS), 1)],
     ];
+    let mut tables: Vec<_> = changes.iter().map(|change| changed(&good(), change)).collect();
+    tables.insert(2, count_into_next_section());
     let calls = [
         Call::Checkpoint { p: 0 },
         Call::Send { p: 1, q: 0 },
         Call::Receipt { p: 1, q: 0, k: 1 },
         Call::Line { number: 1 },
     ];
-    let bad = changes.iter().enumerate().map(|(i, change)| {
-        let mut words = GOOD;
-        for &(place, value) in *change {
-            words[place] = value;
-        }
+    let bad = tables.iter().enumerate().map(|(i, words)| {
         let tried = [calls[i % 4], calls[(i + 1) % 4], Call::Failed { mask: 0 }];
-        let script = Script::words(&words).with(&tried);
-        assert!(script.steps.iter().all(|step| step.returned == 3), "{change:?}");
+        let script = Script::words(words).with(&tried);
+        assert!(script.steps.iter().all(|step| step.returned == 3), "{words:?}");
         script
     });
     bad.collect()
@@ -340,9 +345,9 @@ fn each(mut script: Script, area: usize) -> Script {
 
 /// Rows 2, 1 and 2 of the table, each with later rows met as well.
 fn wrong_lengths_and_dimensions() -> Vec<Script> {
-    let good = from_words(&GOOD);
-    let lengths = [0, 3, 7, 8, 79, 81].map(|length| {
-        let mut table = good.clone();
+    let length = table_length(2, 2);
+    let lengths = [0, 3, 7, 8, length - 1, length + 1].map(|length| {
+        let mut table = from_words(&good());
         table.resize(length, 9);
         let mut script = each(Script::on(&table), 8);
         script.exact(Call::Fresh { n: 2, e: 2 });
@@ -350,9 +355,7 @@ fn wrong_lengths_and_dimensions() -> Vec<Script> {
         script
     });
     let dimensions = [(0, 2), (17, 2), (2, 0), (2, 1025), (MAX, MAX), (1 << 24, 2)].map(|(n, e)| {
-        let mut words = GOOD;
-        (words[0], words[1]) = (n, e);
-        let mut script = each(Script::words(&words), 8);
+        let mut script = each(Script::words(&changed(&good(), &[(0, n), (1, e)])), 8);
         script.exact(Call::Fresh { n, e });
         script
     });
@@ -361,36 +364,22 @@ fn wrong_lengths_and_dimensions() -> Vec<Script> {
 
 /// Rows from the answer area on, each with later rows met as well.
 fn rows_of_steps() -> Vec<Script> {
-    let mut areas = Script::words(&GOOD);
+    let mut areas = Script::words(&good());
     for length in [0, 3, 4, 5, 7, 8, 9, 12, 16, 17] {
         areas = each(areas, length);
     }
-    // Process 0 has no record free and the number n × E; it has receipts of a send to another process, of one that
-    // isn't there and of one that is.
-    #[rustfmt::skip]
-    let full = [
-        3, 4,
-        4, 12, 0,  1, 12, 0,  4, 1, 1,  4, 1, 2,  4, 1, 4,
-        4, 2, 3,   3, 0, 1,   3, 2, 2,  1, 2, 0,  3, 0, 3,
-        0, 0, 0,   0, 0, 0,   0, 0, 0,  0, 0, 0,  0, 0, 0,
-    ];
     let mut steps = vec![Call::Checkpoint { p: 0 }, Call::Send { p: 0, q: 1 }];
     steps.extend([3, 4, MAX].map(|p| Call::Checkpoint { p }));
     steps.extend([3, MAX].map(|p| Call::Send { p, q: p }));
     steps.extend([0, 3, MAX].map(|q| Call::Send { p: 0, q }));
     steps.extend([0, 3, MAX].map(|q| Call::Receipt { p: 0, q, k: 0 }));
     steps.extend([0, 1, 2, 3, 4, 5, MAX].map(|k| Call::Receipt { p: 0, q: 1, k }));
-    let mut free = full.to_vec();
-    free[2] = 3;
-    free[14..17].fill(0);
     // At the number 2 the receipt of (1, 3) takes the one free record, at the number 1 it would force.
     let at = |number: u32| {
-        let mut words = free.clone();
-        (words[3], words[6]) = (number, number);
-        let receipt = Call::Receipt { p: 0, q: 1, k: 3 };
-        Script::words(&words).with(&[Call::Checkpoint { p: 0 }][..usize::from(number == 12)]).with(&[receipt])
+        let checkpoint = &[Call::Checkpoint { p: 0 }][..usize::from(number == 12)];
+        Script::on(&one_free_at(number)).with(checkpoint).with(&[Call::Receipt { p: 0, q: 1, k: 3 }])
     };
-    vec![areas, Script::words(&full).with(&steps), at(12), at(2), at(1)]
+    vec![areas, Script::records(4, &full()).with(&steps), at(12), at(2), at(1)]
 }
 
 /// The cases of document 01 with n = 2, E = 2 that return 9, the table that meets number 10, and an equal number.
@@ -402,17 +391,16 @@ fn small_cases() -> Vec<Script> {
         Call::Send { p: 1, q: 0 },
         receipt,
     ]);
-    let ten = Script::words(&[1, 2, 1, 2, 0, 1, 2, 0, 0, 0, 0]).with(&[Call::Checkpoint { p: 0 }]);
-    let both = Script::words(&[1, 2, 2, 2, 0, 1, 2, 0, 1, 2, 0]).with(&[Call::Checkpoint { p: 0 }]);
+    let ten = Script::records(2, &[vec![checkpoint(2)]]).with(&[Call::Checkpoint { p: 0 }]);
+    let both = Script::records(2, &[vec![checkpoint(2); 2]]).with(&[Call::Checkpoint { p: 0 }]);
     let equal = Script::fresh(2, 4).with(&[Call::Checkpoint { p: 1 }]).with(&first).with(&[receipt]);
     vec![nine, ten, both, equal]
 }
 
 /// n = 2, E = 6. The numbers of process 0 fall, so its sends carry 5, 2 and 0; process 1 receives them in this order.
 fn falling_numbers(order: [u32; 3]) -> Script {
-    let mut words = vec![2, 6, 6, 0, 3, 1, 5, 0, 3, 1, 1, 1, 2, 0, 3, 1, 2, 2, 0, 0, 3, 1, 3];
-    words.resize(table_length(2, 6) / 4, 0);
-    Script::words(&words).with(&order.map(|k| Call::Receipt { p: 1, q: 0, k }))
+    let falling = vec![checkpoint(5), send(1, 1), checkpoint(2), send(1, 2), forced(0), send(1, 3)];
+    Script::records(6, &[falling, vec![]]).with(&order.map(|k| Call::Receipt { p: 1, q: 0, k }))
 }
 
 /// n = 3, E = 6: a number that is forced onto one process after another, overtaken by an older message.
@@ -437,13 +425,11 @@ fn forced_chain() -> Script {
 /// n = 2, E = 7: each checkpoint lies between a receipt and the send that the other side's next receipt needs, so a
 /// failed process takes the other one back, and that one the first, down to the start.
 fn fall() -> Script {
-    let round = |other: u32, received: u32, sent: u32| [4, other, received, 1, 0, 0, 3, other, sent];
-    let mut words = vec![2, 7, 7, 0, 3, 3, 1, 1];
-    words.extend((1..=2).flat_map(|k| round(1, k, k + 1)));
-    words.extend([7, 0, 2]);
-    words.extend((1..=2).flat_map(|k| round(0, k, k)));
-    words.extend([4, 0, 3]);
-    let mut script = Script::words(&words);
+    let round =
+        |other: u32, received: u32, sent: u32| [receipt(other, received), checkpoint(0), send(other, sent)];
+    let first = [send(1, 1)].into_iter().chain((1..=2).flat_map(|k| round(1, k, k + 1)));
+    let second = (1..=2).flat_map(|k| round(0, k, k)).chain([receipt(0, 3)]);
+    let mut script = Script::records(7, &[first.collect(), second.collect()]);
     script.lines(&[0, 1]);
     script
 }
@@ -458,7 +444,7 @@ fn main() {
 }
 
 fn rules() -> String {
-    let mut file = File { text: String::from(HEAD), tables: Vec::new(), met: [false; 12] };
+    let mut file = File { text: String::from(HEAD), tables: Vec::new(), met: BTreeSet::new() };
     let mut rng = Rng::new(SEED);
     let worked = "The worked controller: its calls, then P1 to P10.";
     file.group("worked", worked, vec![worked_controller()]);
@@ -481,6 +467,6 @@ fn rules() -> String {
         let script = random_well_laid(&mut rng, n, e, 10);
         file.group(&format!("unmade{i}"), &note, vec![script]);
     }
-    assert!(file.met.iter().all(|&met| met), "a number from 0 to 11 isn't met: {:?}", file.met);
+    assert_eq!(file.met, numbers(), "the numbers that are met");
     file.text
 }

@@ -1,7 +1,7 @@
 //! Prints crates/vectors/specs/TextVectors.antt: inputs of the text program with the outputs that the reference gives, and
 //! theorems that the definition gives the same. The inputs are small, because the prover computes each output.
 use crate::wrapped;
-use cases::{remember, step_or_line, table_length, Call, Rng};
+use cases::{on_reference, remember, step_or_line, table_length, Call, Rng};
 use reference::run_text;
 
 const SEED: u64 = 2;
@@ -85,19 +85,13 @@ fn runs(rng: &mut Rng) -> Vec<Vec<u8>> {
     let mut inputs = Vec::new();
     for (case, (n, e)) in [(1, 2), (2, 3), (2, 4), (3, 2)].into_iter().enumerate() {
         let mut table = vec![0; table_length(n, e)];
-        assert_eq!(reference::fresh(&mut table, n, e), 0);
+        assert_eq!(on_reference(Call::Fresh { n, e }, &mut [&mut table]), 0);
         let (mut known, mut lines) = (Vec::new(), vec![Call::Fresh { n, e }.text()]);
         for _ in 0..6 {
             let call = step_or_line(rng, n, e, &known);
             lines.push(call.text());
             let mut area = vec![0; call.area_length(n)];
-            let returned = match call {
-                Call::Checkpoint { p } => reference::checkpoint(&mut table, &mut area, p),
-                Call::Send { p, q } => reference::send(&mut table, &mut area, p, q),
-                Call::Receipt { p, q, k } => reference::receipt(&mut table, &mut area, p, q, k),
-                _ => continue,
-            };
-            if returned == 0 {
+            if on_reference(call, &mut [&mut table, &mut area]) == 0 {
                 remember(rng, &mut known, call, &table);
             }
         }
