@@ -2,7 +2,8 @@
 ghost use mathlib.Core.Path.{_≡_};
 ghost use Prim.Native.Nat.{_≤_};
 ghost use lib.ListN.{length};
-ghost use Rattle.rules.specs.Text.{number, empty, asked, wordOf, digit as digitOf, fieldOf, same as sameBytes, readLine};
+ghost use Rattle.rules.specs.Text.{number, empty, asked, wordOf, digit as digitOf, fieldOf, readLine};
+ghost use Rattle.rules.specs.Compared.{same as sameBytes};
 ghost use Rattle.reading.specs.Meanings.{fieldAs, readingOf, Ends};
 
 // What a field after the word holds.

@@ -1,3 +1,4 @@
+pub mod Compared
 pub mod Records
 pub mod Table
 pub mod Steps

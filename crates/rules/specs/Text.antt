@@ -7,6 +7,7 @@ use lib.Dec.{leb, ltb, eqb}
 use lib.ListN.{length, getD, take, replicate}
 use lib.Count.{ones, onesIn}
 use Rattle.xdr.specs.Words.{word, putWord, putWords}
+use Rattle.rules.specs.Compared.{same, same-equal}
 use Rattle.rules.specs.Table.{inRange, size, layout, decoded, wellLaid}
 use Rattle.rules.specs.Steps.{Call, checkpoint, send, receipt}
 use Rattle.rules.specs.FailureLine.{round, rounds, failureLine}
@@ -103,12 +104,6 @@ lineBytes = 108 ∷ 105 ∷ 110 ∷ 101 ∷ []
 
 abbrev pub failedBytes : List ℕ
 failedBytes = 102 ∷ 97 ∷ 105 ∷ 108 ∷ 101 ∷ 100 ∷ []
-
-abbrev pub same : List ℕ → List ℕ → Bool
-same [] [] = true
-same [] (b ∷ t) = false
-same (a ∷ s) [] = false
-same (a ∷ s) (b ∷ t) = eqb a b && same s t
 
 abbrev pub wordOf : List ℕ → Word
 wordOf s =
@@ -267,4 +262,4 @@ listingAnswers =
 
 pub listing-answered : textOutput listing ≡ listingAnswers
 unfolding textOutput readLine freshOn stepOn lineOn failedOn layout decoded wellLaid word putWord putWords failureAnswer failureLine rounds round ones onesIn
-listing-answered = refl
+listing-answered = same-equal (textOutput listing) listingAnswers refl

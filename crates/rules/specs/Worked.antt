@@ -5,6 +5,7 @@ use Prim.Native.Nat.{ℕ, _*_}
 use lib.ListN.{replicate}
 use lib.Count.{ones, onesIn}
 use Rattle.xdr.specs.Words.{word, putWord, putWords, bytes}
+use Rattle.rules.specs.Compared.{same-equal, sames-equal}
 use Rattle.rules.specs.Table.{size, layout, decoded, wellLaid}
 use Rattle.rules.specs.Steps.{Call, checkpoint, send, receipt}
 use Rattle.rules.specs.FailureLine.{round, rounds, failureLine}
@@ -46,7 +47,7 @@ worked =
 
 pub worked-table : tableAfter (freshTable 3 6) workedCalls ≡ worked
 unfolding freshOn stepOn layout decoded wellLaid word putWord putWords
-worked-table = refl
+worked-table = same-equal (tableAfter (freshTable 3 6) workedCalls) worked refl
 
 -- what a call gives: the number returned, then the words answered
 abbrev pub told : Outcome → List ℕ
@@ -77,11 +78,12 @@ cases =
 
 pub worked-cases : map (λ (c : Case). c .given) cases ≡ map (λ (c : Case). c .stated) cases
 unfolding freshOn stepOn lineOn failedOn layout decoded wellLaid word putWord putWords failureAnswer failureLine rounds round ones onesIn
-worked-cases = refl
+worked-cases = sames-equal (map (λ (c : Case). c .given) cases) (map (λ (c : Case). c .stated) cases) refl
 
 -- the worked calls' answers
-pub worked-answers : map told (outcomesOn (freshTable 3 6) workedCalls)
-    ≡ (0 ∷ 1 ∷ [])
+abbrev workedAnswers : List (List ℕ)
+workedAnswers =
+    (0 ∷ 1 ∷ [])
     ∷ (0 ∷ 1 ∷ 1 ∷ [])
     ∷ (0 ∷ 1 ∷ 0 ∷ [])
     ∷ (0 ∷ 1 ∷ 1 ∷ [])
@@ -89,8 +91,10 @@ pub worked-answers : map told (outcomesOn (freshTable 3 6) workedCalls)
     ∷ (0 ∷ 1 ∷ 1 ∷ [])
     ∷ (0 ∷ 0 ∷ 0 ∷ [])
     ∷ []
+
+pub worked-answers : map told (outcomesOn (freshTable 3 6) workedCalls) ≡ workedAnswers
 unfolding freshOn stepOn layout decoded wellLaid word putWord putWords
-worked-answers = refl
+worked-answers = sames-equal (map told (outcomesOn (freshTable 3 6) workedCalls)) workedAnswers refl
 
 -- Receipts that carry the receiver's own number force nothing: 0 carries 1 to 1, which has a checkpoint of its own numbered 1.
 pub equal-number : map told (outcomesOn (freshTable 2 4) (exact 0 checkpoint ∷ exact 1 checkpoint ∷ exact 0 (send 1) ∷ exact 1 (receipt 0 1) ∷ []))
