@@ -1,7 +1,7 @@
 -- Laws of tests that are put together, and of values that a test picks.
-use mathlib.Core.Path.{_≡_, refl}
+use mathlib.Core.Path.{_≡_, refl, sym}
 use mathlib.Core.Logic.{_⊎_, inl, inr}
-use mathlib.Core.Bool.{Bool, true, false, cond, _&&_, _||_, and-eq-true-iff}
+use mathlib.Core.Bool.{Bool, true, false, cond, _&&_, _||_, and-false, and-eq-true-iff}
 use Prim.Native.Nat.{ℕ}
 use native.Mathlib.Omega.{arith}
 
@@ -35,6 +35,12 @@ true-or false b e = inr e
 pub or-right : (a b : Bool) → b ≡ true → (a || b) ≡ true
 or-right true b e = refl
 or-right false b e = e
+
+-- two and two, the other way round
+pub interchange : (a b c d : Bool) → ((a && b) && (c && d)) ≡ ((a && c) && (b && d))
+interchange true true c d = refl
+interchange true false c d = sym (and-false c)
+interchange false b c d = refl
 
 -- one value where either test holds, or where both do
 pub either : {A : Type 0} (x y : Bool) (u v : A) → cond x u (cond y u v) ≡ cond (x || y) u v

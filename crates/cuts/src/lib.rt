@@ -23,7 +23,7 @@ fn saved(t: &[u8], at: usize, i: usize) -> bool
     if i == 0 {
         return true;
     }
-    let kind = xdr::get_usize(t, at + layout::WIDTH * (i - 1));
+    let kind = xdr::get_usize(t, at + shape::WIDTH * (i - 1));
     !((kind == 4) | (kind == 3))
 }
 
@@ -36,7 +36,7 @@ pub fn back_to(t: &[u8], at: usize, c: usize, k: usize, r: usize) -> Part
     let mut sends = k;
     while (r < i) | !saved(t, at, i) {
         i -= 1;
-        sends -= layout::pick(xdr::get_usize(t, at + layout::WIDTH * i) == 3, 1, 0);
+        sends -= shape::pick(xdr::get_usize(t, at + shape::WIDTH * i) == 3, 1, 0);
     }
     Part {
         position: i,
@@ -58,7 +58,7 @@ pub fn first_late(t: &[u8], at: usize, c: usize, sends: &[u16]) -> usize
 {
     let mut i: usize = 0;
     while i < c {
-        let w = at + layout::WIDTH * i;
+        let w = at + shape::WIDTH * i;
         let q = xdr::get_usize(t, w + 1) % 16;
         if (xdr::get_usize(t, w) == 4) & (wide(sends[q]) < xdr::get_usize(t, w + 2)) {
             return i;
@@ -74,7 +74,7 @@ fn note_index(e: usize, len: usize, q: usize, k: usize) -> usize
     ensures { λ r. ⌜ r ≡ noteIndex e len q k ⌝ }
 {
     let x = q * e + k;
-    layout::pick(x < len, x, 0)
+    shape::pick(x < len, x, 0)
 }
 
 // How many records of process p come before the first one that is unsent, c if none is.
@@ -84,7 +84,7 @@ pub fn first_unsent(t: &[u8], at: usize, c: usize, e: usize, p: u8, to: &[u8]) -
 {
     let mut i: usize = 0;
     while i < c {
-        let w = at + layout::WIDTH * i;
+        let w = at + shape::WIDTH * i;
         let x = note_index(
             e,
             to.len(),
@@ -107,10 +107,10 @@ pub fn note(t: &[u8], at: usize, c: usize, e: usize, q: usize, to: &mut [u8])
     let mut k: usize = 0;
     let mut i: usize = 0;
     while i < c {
-        let w = at + layout::WIDTH * i;
+        let w = at + shape::WIDTH * i;
         let kind = xdr::get_usize(t, w);
-        to[q * e + k + 1] = layout::pick(kind == 3, xdr::get_usize(t, w + 1) % 32, 16) as u8;
-        k = layout::pick(kind == 3, k + 1, k);
+        to[q * e + k + 1] = shape::pick(kind == 3, xdr::get_usize(t, w + 1) % 32, 16) as u8;
+        k = shape::pick(kind == 3, k + 1, k);
         i += 1;
     }
 }

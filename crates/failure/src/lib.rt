@@ -32,8 +32,8 @@ fn back(t: &[u8], n: usize, e: usize, position: [u16; 16]) -> u32
     let mut bit: usize = 1;
     let mut p: usize = 0;
     while p < n {
-        let c = xdr::get_usize(t, layout::start(e, p));
-        mask = mask + layout::pick(cuts::wide(position[p]) < c, bit, 0);
+        let c = xdr::get_usize(t, shape::start(e, p));
+        mask = mask + shape::pick(cuts::wide(position[p]) < c, bit, 0);
         bit = bit * 2;
         p += 1;
     }

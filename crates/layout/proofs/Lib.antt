@@ -1,2 +1,1 @@
-pub mod Sections
-pub mod Marks
+pub mod Tables

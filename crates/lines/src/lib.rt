@@ -13,8 +13,8 @@ fn position_of(t: &[u8], e: usize, p: usize, m: usize) -> u32
     requires { ⌜ (e ≤ 1024) × (p < 16) × (4 * start e (p + 1) ≤ length (now t)) × (word (now t) (start e p) ≤ e) ⌝ }
     ensures { λ r. ⌜ r ≡ numbered m (sectionAt (word (now (t .entry))) e p) ⌝ }
 {
-    let at = layout::start(e, p);
-    scans::position(t, at + layout::HEADING, xdr::get_usize(t, at), m) as u32
+    let at = shape::start(e, p);
+    scans::position(t, at + shape::HEADING, xdr::get_usize(t, at), m) as u32
 }
 
 // Writes the positions of all n processes.

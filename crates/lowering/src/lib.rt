@@ -36,11 +36,11 @@ fn top(t: &[u8], e: usize, p: usize, down: bool) -> cuts::Part
     requires { ⌜ Laid (now t) (word (now t) 0) e × (p < word (now t) 0) ⌝ }
     ensures { λ r. ⌜ (r .position ≡ topOf down (history (decoded (now (t .entry))) p)) × (r .sends ≡ sendsOf (upto (r .position) (history (decoded (now (t .entry))) p))) ⌝ }
 {
-    let at = layout::start(e, p);
+    let at = shape::start(e, p);
     let c = xdr::get_usize(t, at);
     let k = xdr::get_usize(t, at + 2);
     if down {
-        return cuts::back_to(t, at + layout::HEADING, c, k, c);
+        return cuts::back_to(t, at + shape::HEADING, c, k, c);
     }
     cuts::Part {
         position: c,
@@ -93,8 +93,8 @@ fn note_all(t: &[u8], n: usize, e: usize, to: &mut [u8])
 {
     let mut p: usize = 0;
     while p < n {
-        let at = layout::start(e, p);
-        cuts::note(t, at + layout::HEADING, xdr::get_usize(t, at), e, p, to);
+        let at = shape::start(e, p);
+        cuts::note(t, at + shape::HEADING, xdr::get_usize(t, at), e, p, to);
         p += 1;
     }
 }
@@ -108,7 +108,7 @@ fn prune(t: &[u8], n: usize, e: usize, cut: Cut, to: &[u8]) -> Cut
     let mut sends = cut.sends;
     let mut p: usize = 0;
     while p < n {
-        let at = layout::start(e, p) + layout::HEADING;
+        let at = shape::start(e, p) + shape::HEADING;
         let c = cuts::wide(position[p]);
         let r = cuts::first_unsent(t, at, c, e, p as u8, to);
         let x = back(t, at, c, cuts::wide(sends[p]), r);
@@ -156,14 +156,14 @@ pub fn settled(t: &[u8], n: usize, e: usize, cut: Cut) -> Cut
     let mut stayed: usize = 0;
     let mut p: usize = 0;
     while stayed < n {
-        let at = layout::start(e, p) + layout::HEADING;
+        let at = shape::start(e, p) + shape::HEADING;
         let c = cuts::wide(position[p]);
         let r = cuts::first_late(t, at, c, &sends);
         let x = back(t, at, c, cuts::wide(sends[p]), r);
         position[p] = x.position as u16;
         sends[p] = x.sends as u16;
-        stayed = layout::pick(r < c, 0, stayed + 1);
-        p = layout::pick(p + 1 < n, p + 1, 0);
+        stayed = shape::pick(r < c, 0, stayed + 1);
+        p = shape::pick(p + 1 < n, p + 1, 0);
     }
     Cut {
         position: position,

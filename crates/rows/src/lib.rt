@@ -37,7 +37,7 @@ pub fn checkpoint_row(t: &[u8], len: usize, p: usize) -> u32
     }
     let n = xdr::get_usize(t, 0);
     let e = xdr::get_usize(t, 1);
-    let at = layout::start(e, p);
+    let at = shape::start(e, p);
     if e < xdr::get_usize(t, at) + 1 {
         return 9;
     }
@@ -69,7 +69,7 @@ pub fn send_row(t: &[u8], len: usize, p: usize, q: usize) -> u32
         return row;
     }
     let e = xdr::get_usize(t, 1);
-    if e < xdr::get_usize(t, layout::start(e, p)) + 1 {
+    if e < xdr::get_usize(t, shape::start(e, p)) + 1 {
         return 9;
     }
     0
@@ -94,12 +94,12 @@ fn message_row(t: &[u8], e: usize, at: usize, from: usize, p: usize, q: usize, k
     ensures { λ r. ⌜ (r .row ≡ first (receiptRowsAt (now (t .entry)) e at from p q k)) × (r .row ≡ 0 → r .carried ≡ carried (sectionOf (word (now (t .entry))) from) k) ⌝ }
 {
     let c = xdr::get_usize(t, at);
-    let m = scans::find_send(t, from + layout::HEADING, xdr::get_usize(t, from), k);
+    let m = scans::find_send(t, from + shape::HEADING, xdr::get_usize(t, from), k);
     let carried = m.carried;
     if !(m.found & ((m.to as usize) == p)) {
         return Message { row: 7, carried };
     }
-    if scans::has_receipt(t, at + layout::HEADING, c, q, k) {
+    if scans::has_receipt(t, at + shape::HEADING, c, q, k) {
         return Message { row: 8, carried };
     }
     if e < c + needed(xdr::get(t, at + 1) < carried) {
@@ -116,5 +116,5 @@ pub fn receipt_row(t: &[u8], len: usize, p: usize, q: usize, k: usize) -> Messag
         return Message { row, carried: 0 };
     }
     let e = xdr::get_usize(t, 1);
-    message_row(t, e, layout::start(e, p), layout::start(e, q), p, q, k)
+    message_row(t, e, shape::start(e, p), shape::start(e, q), p, q, k)
 }

@@ -31,10 +31,10 @@ pub fn find_send(t: &[u8], at: usize, c: usize, k: usize) -> Sent
     let mut sends: usize = 0;
     let mut i: usize = 0;
     while i < c {
-        let w = at + layout::WIDTH * i;
+        let w = at + shape::WIDTH * i;
         let kind = xdr::get(t, w);
         let a = xdr::get(t, w + 1);
-        sends = layout::pick(kind == 3, sends + 1, sends);
+        sends = shape::pick(kind == 3, sends + 1, sends);
         if (kind == 3) & (sends == k) {
             return Sent {
                 found: true,
@@ -59,7 +59,7 @@ pub fn has_receipt(t: &[u8], at: usize, c: usize, q: usize, k: usize) -> bool
 {
     let mut i: usize = 0;
     while i < c {
-        let w = at + layout::WIDTH * i;
+        let w = at + shape::WIDTH * i;
         if (xdr::get_usize(t, w) == 4)
             & (xdr::get_usize(t, w + 1) == q)
             & (xdr::get_usize(t, w + 2) == k)
@@ -82,7 +82,7 @@ pub fn position(t: &[u8], at: usize, c: usize, m: usize) -> usize
     }
     let mut i: usize = 0;
     while i < c {
-        let w = at + layout::WIDTH * i;
+        let w = at + shape::WIDTH * i;
         i += 1;
         if m <= xdr::get_usize(t, w + 1) {
             let kind = xdr::get_usize(t, w);

@@ -10,7 +10,7 @@ pub fn checkpoint(table: &mut [u8], area: &mut [u8], p: u32) -> u32
     if row != 0 {
         return row;
     }
-    let at = layout::start(xdr::get_usize(table, 1), p as usize);
+    let at = shape::start(xdr::get_usize(table, 1), p as usize);
     let x = xdr::get(table, at + 1) + 1;
     let s = xdr::get(table, at + 2);
     store::add_record(table, at, x, s, 1, x, 0);
@@ -25,7 +25,7 @@ pub fn send(table: &mut [u8], area: &mut [u8], p: u32, q: u32) -> u32
     if row != 0 {
         return row;
     }
-    let at = layout::start(xdr::get_usize(table, 1), p as usize);
+    let at = shape::start(xdr::get_usize(table, 1), p as usize);
     let x = xdr::get(table, at + 1);
     let s = xdr::get(table, at + 2) + 1;
     store::add_record(table, at, x, s, 3, q, s);
@@ -42,7 +42,7 @@ pub fn receipt(table: &mut [u8], area: &mut [u8], p: u32, q: u32, k: u32) -> u32
         return row;
     }
     let carried = m.carried;
-    let at = layout::start(xdr::get_usize(table, 1), p as usize);
+    let at = shape::start(xdr::get_usize(table, 1), p as usize);
     let forced = store::add_receipt(table, at, carried, q, k);
     store::answer(area, carried, forced);
     0

@@ -25,7 +25,7 @@ pub fn add_record(t: &mut [u8], at: usize, x: u32, s: u32, kind: u32, a: u32, b:
     xdr::put_three(t, at, c + 1, x, s);
     put_record(
         t,
-        at + layout::HEADING + layout::WIDTH * (c as usize),
+        at + shape::HEADING + shape::WIDTH * (c as usize),
         kind,
         a,
         b,
@@ -38,10 +38,10 @@ fn add_forced(t: &mut [u8], at: usize, s: u32, m: u32, q: u32, k: u32)
     ensures { λ _. ⌜ now (t .exit) ≡ withForced (now (t .entry)) at s m q k ⌝ }
 {
     let c = xdr::get(t, at);
-    let w = at + layout::HEADING + layout::WIDTH * (c as usize);
+    let w = at + shape::HEADING + shape::WIDTH * (c as usize);
     xdr::put_three(t, at, c + 2, m, s);
     put_record(t, w, 2, m, 0);
-    put_record(t, w + layout::WIDTH, 4, q, k);
+    put_record(t, w + shape::WIDTH, 4, q, k);
 }
 
 // The receipt of (q, k), which carries m; returns 1 if it forces a checkpoint, else 0.

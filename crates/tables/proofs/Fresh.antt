@@ -10,7 +10,8 @@ use Rattle.xdr.proofs.Words.{Small, bytes-of}
 use Rattle.xdr.proofs.Puts.{all-length, all-bytes, all-other, all-at}
 use Rattle.rules.specs.Table.{heading, width, size, sectionWords, sectionsWords, layout, fresh}
 use Rattle.records.proofs.Steps.{history-fresh}
-use Rattle.tables.proofs.Laid.{InRange, sections-length}
+use Rattle.tables.proofs.Laid.{sections-length}
+use Rattle.tables.proofs.Ranges.{InRange}
 
 abbrev Zeros : List ℕ → Type 0
 Zeros xs = (i : ℕ) → getD xs i 0 ≡ 0

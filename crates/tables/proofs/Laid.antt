@@ -4,7 +4,7 @@ use mathlib.Core.Logic.{_≢_}
 use mathlib.Core.Bool.{true}
 use mathlib.Core.List.{List, [], _∷_, _++_}
 use Prim.Native.Nat.{ℕ, zero, suc, _+_, _-_, _*_, _≤_, _<_, zero-le}
-use native.Mathlib.Nat.{le-trans, zero-add, not-suc-le-zero, le-of-suc-le-suc, mul-le-mul, suc-mul}
+use native.Mathlib.Nat.{le-trans, zero-add, not-suc-le-zero, le-of-suc-le-suc, suc-mul}
 use native.Mathlib.Omega.{arith}
 use lib.ListN.{length, getD, replicate, length-append, length-replicate, getD-replicate}
 use borrow.Author.Tests.{lt-ltb, le-leb, eq-eqb, ne-eqb}
@@ -16,6 +16,7 @@ use Rattle.records.proofs.Histories.{holds-held, sends-older, Each, each-older,
 use Rattle.records.proofs.Made.{Source, Name, Made, number-le}
 use Rattle.tables.proofs.Places.{At, at-word, at-left, at-right}
 use Rattle.xdr.proofs.Words.{Small, small-append, small-at, small-zeros, word-bytes, bytes-length}
+use Rattle.tables.proofs.Ranges.{InRange, product}
 
 -- ---- the records of a made state are within their ranges
 
@@ -252,16 +253,6 @@ small-sections n E a b c (h ∷ s) p short num L =
     (λ q. subst (λ (i : ℕ). Legal n E i (history s q)) (let e : p + suc q ≡ suc p + q = omega arith in e) (L (suc q))))
 
 -- ---- the table of a made state
-
-pub record InRange (n E : ℕ) : Type 0 where
-  pub some-process : 1 ≤ n
-  pub processes : n ≤ 16
-  pub some-record : 1 ≤ E
-  pub records : E ≤ 1024
-
--- the largest number of any table
-pub product : (n E : ℕ) → n ≤ 16 → E ≤ 1024 → n * E ≤ 16384
-product n E a b = mul-le-mul {n₁ = n} {m₁ = E} {n₂ = 16} {m₂ = 1024} a b
 
 module _ (n E : ℕ) (d : InRange n E) (s : State) (M : Made n E s) where
   abbrev words : List ℕ

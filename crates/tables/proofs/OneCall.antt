@@ -1,24 +1,24 @@
 -- What one accepted call stores into any table, made or not, is the table that the rules say.
 use mathlib.Core.Path.{_≡_, refl, sym}
-use mathlib.Core.Bool.{Bool, true, false, cond, _&&_}
+use mathlib.Core.Bool.{Bool, true, false, cond}
 use mathlib.Core.List.{List, [], _∷_}
 use Prim.Native.Nat.{ℕ, suc, _+_, _-_, _*_, _≤_, _<_, zero-le}
 use native.Mathlib.Nat.{le-trans}
 use native.Mathlib.Omega.{arith}
 use native.Mathlib.Decide.{decLt}
-use lib.Dec.{leb, eqb}
+use lib.Dec.{eqb}
 use lib.ListN.{length, length-append}
-use borrow.Author.Tests.{eqb-true, leb-true, not-false}
+use borrow.Author.Tests.{eqb-true, not-false}
 use Rattle.rules.specs.Records.{basic, forced, sent, received, History, State, history, number, sends, carried, hasSend}
 use Rattle.rules.specs.Steps.{Call, checkpoint, send, receipt, forces, carries, added, stepped}
 use Rattle.rules.specs.Calls.{first, tableRows, needed}
 use Rattle.xdr.specs.Words.{word}
 use Rattle.rules.specs.Table.{layout, sectionsOk, decoded, size, inRange, wellLaid}
-use Rattle.basics.proofs.Booleans.{and-left, and-right}
 use Rattle.records.proofs.Histories.{holds-held}
 use Rattle.records.proofs.Rows.{NoneMet}
 use Rattle.records.proofs.Steps.{Message, Accepted, grown-length}
-use Rattle.tables.proofs.Laid.{InRange, product, Legal, sends-length}
+use Rattle.tables.proofs.Laid.{Legal, sends-length}
+use Rattle.tables.proofs.Ranges.{InRange, product, in-range}
 use Rattle.tables.proofs.WellLaid.{IsTable, sections-each, section-of, addedWords, decoded-is, decoded-at, decoded-short, from-beyond}
 use Rattle.tables.proofs.Stores.{headWords, stored, stored-layout}
 use Rattle.xdr.proofs.Words.{Bytes, Small}
@@ -82,17 +82,6 @@ module _ (n E : ℕ) (d : InRange n E) (s : State) (short : (q : ℕ) → length
           (le-trans (legal-carried n E q (history s q) k (L q)) most) a z x g
 
 -- ---- the call
-
-pub in-range : (n E : ℕ) → inRange n E ≡ true → InRange n E
-in-range n E ok =
-    let o3 = and-left (leb 1 n && leb n 16 && leb 1 E) (leb E 1024) ok in
-    let o2 = and-left (leb 1 n && leb n 16) (leb 1 E) o3 in
-    record {
-      some-process = leb-true 1 n (and-left (leb 1 n) (leb n 16) o2);
-      processes = leb-true n 16 (and-right (leb 1 n) (leb n 16) o2);
-      some-record = leb-true 1 E (and-right (leb 1 n && leb n 16) (leb 1 E) o3);
-      records = leb-true E 1024 (and-right (leb 1 n && leb n 16 && leb 1 E) (leb E 1024) ok);
-    }
 
 -- a lent table that meets none of its own rows
 pub record Valid (t : List ℕ) : Type 0 where

@@ -16,9 +16,10 @@ use Rattle.rules.specs.Steps.{Call}
 use Rattle.rules.specs.Calls.{areaLength, row, first, tableRows, laterRows, stepRows}
 use Rattle.records.proofs.Rows.{none-met, split-zero, first-unmet}
 use Rattle.records.proofs.Steps.{Accepted, accepted-met}
-use Rattle.tables.proofs.Laid.{product, sends-length}
+use Rattle.tables.proofs.Laid.{sends-length}
+use Rattle.tables.proofs.Ranges.{product, in-range}
 use Rattle.tables.proofs.WellLaid.{decoded-at, decoded-words, decoded-short}
-use Rattle.tables.proofs.OneCall.{in-range, Valid, valid, table-legal, legal-number, legal-carried}
+use Rattle.tables.proofs.OneCall.{Valid, valid, table-legal, legal-number, legal-carried}
 
 -- ---- outcomes
 

@@ -51,7 +51,7 @@ fn stop(out: &mut [u8], at: usize, v: u32) -> Reply
 fn in_program_range(n: u32, e: u32) -> bool
     ensures { λ r. ⌜ r ≡ inProgramRange n e ⌝ }
 {
-    layout::in_range(n as usize, e as usize) & (n <= 8) & (e <= 256)
+    shape::in_range(n as usize, e as usize) & (n <= 8) & (e <= 256)
 }
 
 // A fresh table in the room.
@@ -60,7 +60,7 @@ fn begin(n: u32, e: u32, room: &mut [u8], out: &mut [u8], at: usize) -> Reply
     ensures { λ r. ⌜ Replies (began n e) r (now (out .entry)) at (now (out .exit)) (now (room .exit)) ⌝ }
 {
     let m = n as usize;
-    let size = layout::table_size(m, e as usize);
+    let size = shape::table_size(m, e as usize);
     let r = engine::ckpt_fresh(&mut room[..size], n, e);
     let area = [0u8; 4];
     let written = answers::put_answer(out, at, m, answers::told(r, 0), &area);

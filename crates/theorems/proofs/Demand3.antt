@@ -20,8 +20,8 @@ use Rattle.theorems.specs.TwoLists.{AfterList, Both, TwoLists}
 use Rattle.records.proofs.Rows.{NoneMet, none-met, first-append, first-none, judged-returned}
 use Rattle.records.proofs.Made.{Made, made, made-after, made-fresh, never-ten}
 use Rattle.records.proofs.NumberedLines.{numbered-le, line-clean}
-use Rattle.tables.proofs.Laid.{InRange, layout-n, layout-E, layout-length, layout-ok, layout-decoded}
-use Rattle.tables.proofs.OneCall.{in-range}
+use Rattle.tables.proofs.Laid.{layout-n, layout-E, layout-length, layout-ok, layout-decoded}
+use Rattle.tables.proofs.Ranges.{InRange, in-range}
 use Rattle.theorems.proofs.SameCalls.{same-state}
 
 -- ---- calls on the table of a made state

@@ -3,8 +3,8 @@ use native.Mathlib.Omega.{arith}
 use borrow.Author.Needs.{needs}
 use borrow.Author.Tests.{not-true, not-false}
 use Rattle.xdr.proofs.Puts.{two-puts}
-use Rattle.tables.proofs.OneCall.{in-range}
-use Rattle.layout.proofs.Sections.{fresh-range, fresh-size, fresh-done}
+use Rattle.tables.proofs.Ranges.{in-range}
+use Rattle.layout.proofs.Tables.{fresh-range, fresh-size, fresh-done}
 use Rattle.layout.proofs.fresh.Statement.{statement}
 use Rattle.layout.proofs.fresh.Tie as tie
 

@@ -2,8 +2,8 @@ use mathlib.Core.Path.{sym, _∙_}
 use native.Mathlib.Omega.{arith}
 use borrow.Author.Needs.{needs}
 use borrow.Author.Tests.{not-true, not-false}
-use Rattle.tables.proofs.OneCall.{in-range}
-use Rattle.layout.proofs.Sections.{row-short, row-range, row-size, row-laid, row-none}
+use Rattle.tables.proofs.Ranges.{in-range}
+use Rattle.layout.proofs.Tables.{row-short, row-range, row-size, row-laid, row-none}
 use Rattle.layout.proofs.table_row.Statement.{statement}
 use Rattle.layout.proofs.table_row.Tie as tie
 

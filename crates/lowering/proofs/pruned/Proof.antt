@@ -2,7 +2,7 @@ use Prim.Native.Nat.{ℕ}
 use native.Mathlib.Omega.{arith}
 use lib.ListN.{length-replicate}
 use borrow.Author.Needs.{needs}
-use Rattle.tables.proofs.Laid.{product}
+use Rattle.tables.proofs.Ranges.{product}
 use Rattle.lowering.proofs.Steps.{blank}
 use Rattle.lowering.proofs.pruned.Statement.{statement}
 use Rattle.lowering.proofs.pruned.Tie as tie

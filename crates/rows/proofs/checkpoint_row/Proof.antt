@@ -3,7 +3,7 @@ use native.Mathlib.Omega.{arith}
 use borrow.Author.Needs.{needs}
 use Rattle.rules.specs.Steps.{checkpoint}
 use Rattle.tables.proofs.Outcomes.{head}
-use Rattle.tables.proofs.Laid.{product}
+use Rattle.tables.proofs.Ranges.{product}
 use Rattle.rows.proofs.Rows.{acts, step-stopped, checkpoint-full, checkpoint-number, checkpoint-none}
 use Rattle.rows.proofs.checkpoint_row.Statement.{statement}
 use Rattle.rows.proofs.checkpoint_row.Tie as tie
