@@ -1,7 +1,7 @@
 -- What a call left, and the fields of its answer.
 use mathlib.Core.Path.{_≡_, refl, _∙_, sym, ap, subst}
 use mathlib.Core.Bool.{Bool, true, false, cond}
-use mathlib.Core.List.{List, [], _∷_, _++_, append-assoc, append-nil}
+use mathlib.Core.List.{List, [], _∷_, _++_}
 use Prim.Native.Nat.{ℕ, zero, suc, _+_, _-_, _*_, _≤_, _<_}
 use native.Mathlib.Omega.{arith}
 use native.Mathlib.Numerals.{add-one}
@@ -17,7 +17,7 @@ use Rattle.rules.specs.Text.{ran, decimal, furtherFields}
 use Rattle.reading.specs.declared.Call.{Call}
 use Rattle.reading.specs.Meanings.{readingOf}
 use Rattle.decimal.specs.Appended.{Appended}
-use Rattle.decimal.proofs.Texts.{appended-byte, appended-both, appended-as}
+use Rattle.decimal.proofs.Texts.{appended-byte, appended-both, appended-as, Growing, growing-starts, growing-on, growing-as, growing-ends}
 use Rattle.answers.specs.declared.Ran.{Ran}
 use Rattle.answers.specs.Shows.{Shows, shown, fieldOr}
 
@@ -79,10 +79,10 @@ shows-none r t area res e told =
 
 -- ---- fields
 
--- field i is written, where there are further ones: m of them, in the end k
+-- of k fields, the first of them the numbers vs, the first i are written to `before` from `at` on, and the next comes at `to`
 abbrev pub Written : List ℕ → ℕ → List ℕ → ℕ → List ℕ → ℕ → ℕ → Type 0
 Written before at out to vs k i =
-    (i ≤ k) × (length out ≡ length before) × (take to out ++ furtherFields (k - i) (drop i vs) ≡ take at before ++ furtherFields k vs) × (to ≤ at + 11 * i)
+    (i ≤ k) × Growing before at (furtherFields k vs) out to (furtherFields (k - i) (drop i vs)) × (to ≤ at + 11 * i)
 
 field-next : (count : ℕ) (area : List ℕ) (i m : ℕ) (b : Bool) → ltb i count ≡ b → 4 * count ≤ length area
     → furtherFields (suc m) (drop i (shown count area)) ≡ (44 ∷ cond b (decimal (word area i)) []) ++ furtherFields m (drop (i + 1) (shown count area))
@@ -103,34 +103,21 @@ field-next count area i m false t le =
 pub written-starts : (before : List ℕ) (at : ℕ) (vs : List ℕ) (k : ℕ) → Written before at before at vs k 0
 written-starts before at vs k =
     let all : k - 0 ≡ k = omega arith in
-    (omega arith, refl, rw all refl, omega arith)
+    (omega arith, rw all (growing-starts before at (furtherFields k vs)), omega arith)
 
 pub written-on : (before : List ℕ) (at : ℕ) (out out₁ : List ℕ) (to x count : ℕ) (area : List ℕ) (k i : ℕ)
     → Written before at out to (shown count area) k i → i < k → 4 * count ≤ length area
     → Appended out to out₁ x (fieldOr count area i) × (x ≤ to + 11) → Written before at out₁ x (shown count area) k (i + 1)
 written-on before at out out₁ to x count area k i h lt le put =
-    let vs = shown count area in
-    let m : k - i ≡ suc (k - (i + 1)) = omega (arith, lt) in (
-      omega (arith, lt),
-      put .0 .room ∙ h .1,
-      ap (λ (l : List ℕ). l ++ furtherFields (k - (i + 1)) (drop (i + 1) vs)) (put .0 .text)
-          ∙ append-assoc (take to out) (fieldOr count area i) (furtherFields (k - (i + 1)) (drop (i + 1) vs))
-          ∙ ap (λ (l : List ℕ). take to out ++ l) (sym (field-next count area i (k - (i + 1)) (ltb i count) refl le))
-          ∙ ap (λ (j : ℕ). take to out ++ furtherFields j (drop i vs)) (sym m)
-          ∙ h .2,
-      omega (arith, h .3, put .1),
-    )
+    let m : k - i ≡ suc (k - (i + 1)) = omega (arith, lt) in
+    let next = field-next count area i (k - (i + 1)) (ltb i count) refl le in
+    (omega (arith, lt), growing-on (growing-as next (rw m at (h .1))) (put .0), omega (arith, h .2, put .1))
 
 pub written-all : (before : List ℕ) (at : ℕ) (out : List ℕ) (to : ℕ) (vs : List ℕ) (k i : ℕ) → Written before at out to vs k i → k ≤ i → k ≤ 10
     → Appended before at out to (furtherFields k vs) × (to ≤ at + 110)
 written-all before at out to vs k i h ge ten =
-    let none : k - i ≡ 0 = omega (arith, ge) in (
-      record {
-        room = h .1;
-        text = sym (append-nil (take to out)) ∙ ap (λ (j : ℕ). take to out ++ furtherFields j (drop i vs)) (sym none) ∙ h .2;
-      },
-      omega (arith, h .3, h .0, ten),
-    )
+    let none : k - i ≡ 0 = omega (arith, ge) in
+    (growing-ends (growing-as (ap (λ (j : ℕ). furtherFields j (drop i vs)) none) (h .1)), omega (arith, h .2, h .0, ten))
 
 -- a field in its place
 pub field-word : {out out₁ : List ℕ} {at x : ℕ} (count : ℕ) (area : List ℕ) (i : ℕ) → i < count → Appended out at out₁ x (44 ∷ decimal (word area i))

@@ -11,7 +11,7 @@ use lib.Seq.{append-snoc}
 use borrow.Author.Tests.{lt-ltb, le-ltb, leb-true, leb-false, eqb-true}
 use Rattle.rules.specs.Text.{decimal, lastDigits}
 use Rattle.decimal.specs.Appended.{Appended, Digits}
-use Rattle.decimal.proofs.Texts.{appended-byte}
+use Rattle.decimal.proofs.Texts.{appended-byte, Growing, growing-starts, growing-on, growing-as, growing-ends}
 
 -- ---- the table
 
@@ -78,33 +78,24 @@ decimal-spelled v (suc j) d =
 
 -- the text s is written to `before` from `at` on, but for its last i digits, those of v, which come next, at `to`
 abbrev pub Spelling : List ℕ → ℕ → List ℕ → List ℕ → ℕ → ℕ → ℕ → Type 0
-Spelling before at s out v to i =
-    (length out ≡ length before) × (take to out ++ spelled i v ≡ take at before ++ s) × (to + i ≤ at + 10) × (i ≤ 10)
+Spelling before at s out v to i = Growing before at s out to (spelled i v) × (to + i ≤ at + 10) × (i ≤ 10)
 
 pub spelling-starts : (before : List ℕ) (at v k : ℕ) → Digits v k → Spelling before at (decimal v) before v at k
-spelling-starts before at v k d = (refl, ap (λ (l : List ℕ). take at before ++ l) (sym (decimal-spelled v k d)), omega (arith, d .1), d .1)
+spelling-starts before at v k d = (growing-as (decimal-spelled v k d) (growing-starts before at (decimal v)), omega (arith, d .1), d .1)
 
 pub spelling-on : (before s out : List ℕ) (at v to i d : ℕ) → Spelling before at s out v to i → 0 < i → at + 10 ≤ length before
     → d ≡ 48 + v / 10 ^ (i - 1) % 10 → Spelling before at s (set out to d) v (to + 1) (i - 1)
 spelling-on before s out at v to zero d h pos room e = absurd (not-suc-le-zero pos)
 spelling-on before s out at v to (suc i) d h pos room e =
     let m : suc i - 1 ≡ i = omega arith in
-    let lt : to < length out = omega (arith, h .0, h .2, room) in
-    let e′ : d ≡ 48 + v / 10 ^ i % 10 = rw m at e in (
-      length-set out to d ∙ h .0,
-      rw m
-          (ap (λ (l : List ℕ). l ++ spelled i v) ((appended-byte out to d lt) .text)
-          ∙ append-snoc (take to out) d (spelled i v)
-          ∙ ap (λ (x : ℕ). take to out ++ (x ∷ spelled i v)) e′
-          ∙ h .1),
-      omega (arith, h .2),
-      omega (arith, h .3),
-    )
+    let lt : to < length out = omega (arith, h .0 .room, h .1, room) in
+    let digit : 48 + v / 10 ^ i % 10 ≡ d = sym (rw m at e) in
+    let next = growing-on (growing-as (ap (λ (x : ℕ). x ∷ spelled i v) digit) (h .0)) (appended-byte out to d lt) in
+    (rw m next, omega (arith, h .1), omega (arith, h .2))
 
 pub spelling-ends : (before s out : List ℕ) (at v to i : ℕ) → Spelling before at s out v to i → i ≤ 0
     → Appended before at out to s × (to ≤ at + 10)
-spelling-ends before s out at v to zero h le =
-    (record { room = h .0; text = sym (append-nil (take to out)) ∙ h .1 }, omega (arith, h .2))
+spelling-ends before s out at v to zero h le = (growing-ends (h .0), omega (arith, h .1))
 spelling-ends before s out at v to (suc i) h le = absurd (not-suc-le-zero le)
 
 -- ---- a loop that counts digits
