@@ -10,17 +10,17 @@ use Rattle.rules.specs.Calls.{Outcome, answerWords}
 use Rattle.rules.specs.Text.{decimal}
 use Rattle.answers.specs.declared.Ran.{Ran}
 
--- the first words of an area
+-- the first `count` words of an area
 abbrev pub shown : ℕ → List ℕ → List ℕ
 shown count area = wordsOf (take (4 * count) area)
 
--- r and the area tell the number and the words of the outcome o; `table` is left
+-- r and the area tell the number and the words of the outcome o, and `table` is the outcome's
 pub record Shows (o : Outcome) (r : Ran) (table : List ℕ) (area : List ℕ) : Type 0 where
   pub number : r .returned ≡ o .returned
   pub left : table ≡ o .table
   pub words : shown (r .count) area ≡ answerWords o
   pub within : 4 * r .count ≤ length area
 
--- a comma and word i, if there are as many
+-- field i of an answer: a comma, and word i of the area where i is below `count`
 abbrev pub fieldOr : ℕ → List ℕ → ℕ → List ℕ
 fieldOr count area i = 44 ∷ cond (ltb i count) (decimal (word area i)) []

@@ -17,7 +17,7 @@ pub struct Ran {
     pub count: usize,
 }
 
-// A refused call answers no words.
+// What a call that returned this number answers: `count` words, or none where it was refused.
 pub fn told(returned: u32, count: usize) -> Ran
     ensures { λ r. ⌜ (r .returned ≡ returned) × (r .count ≡ cond (eqb returned 0) count 0) ⌝ }
 {
@@ -58,7 +58,7 @@ pub fn run(call: Call, n: usize, table: &mut [u8], area: &mut [u8]) -> Ran
     }
 }
 
-// Writes a comma and field i of the answer: word i of the area if there are as many, else nothing.
+// Writes a comma and field i of the answer: word i of the area where i is below `count`, else nothing.
 fn put_field(out: &mut [u8], at: usize, area: &[u8], count: usize, i: usize) -> usize
     requires { ⌜ (at + 11 ≤ length (now out)) × (4 * count ≤ length (now area)) ⌝ }
     ensures { λ r. ⌜ Appended (now (out .entry)) at (now (out .exit)) r (fieldOr count (now (area .entry)) i) × (r ≤ at + 11) ⌝ }
@@ -84,6 +84,7 @@ fn put_fields(out: &mut [u8], at: usize, area: &[u8], count: usize, k: usize) ->
     to
 }
 
+// Writes CR LF.
 fn put_end(out: &mut [u8], at: usize) -> usize
     requires { ⌜ at + 2 ≤ length (now out) ⌝ }
     ensures { λ r. ⌜ Appended (now (out .entry)) at (now (out .exit)) r lineEnd × (r ≤ at + 2) ⌝ }

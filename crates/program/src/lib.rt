@@ -12,7 +12,7 @@ struct Turn {
     on: bool,
 }
 
-// The input has ended.
+// Answers what is left where the input has ended.
 fn last(s: Session, line: &[u8], room: &mut [u8], out: &mut [u8], to: i32)
     requires { ⌜ Ready s (now line) (now room) × (128 ≤ length (now out)) ⌝ }
 {

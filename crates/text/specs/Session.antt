@@ -11,12 +11,13 @@ use Rattle.text.specs.declared.Stage.the-variants.{Waiting, Running, End
 use Rattle.text.specs.declared.Session.{Session}
 use Rattle.text.specs.declared.Reply.{Reply}
 
--- document 01's stage, where the table stands in the first bytes of a room
+-- where the program stands, in document 01's terms: the table lies in the first bytes of its room
 abbrev pub stageOf : Stage → List ℕ → text.Stage
 stageOf Waiting room = text.waiting
 stageOf (Running n size) room = text.running n (take size room)
 stageOf Ended room = text.ended
 
+-- the program is at its end
 abbrev pub isEnded : Stage → Bool
 isEnded Waiting = false
 isEnded (Running n size) = false
@@ -46,6 +47,7 @@ pub record Replies (want : text.Reply) (r : Reply) (before : List ℕ) (at : ℕ
 abbrev pub owedBy : Session → List ℕ → List ℕ → List ℕ → List ℕ
 owedBy s line room x = text.answers (stageOf (s .stage) room) (text.linesFrom (take (s .held) line) x)
 
+-- what holds from one byte of the input to the next
 abbrev pub Ready : Session → List ℕ → List ℕ → Type 0
 Ready s line room = (s .held ≤ 66) × (length line ≡ 66) × Fits (s .stage) room
 

@@ -7,7 +7,7 @@ ghost use mathlib.Core.List.{List, [], _∷_, _++_};
 ghost use Prim.Native.Nat.{ℕ, _+_, _*_, _≤_};
 ghost use lib.Dec.{eqb};
 ghost use lib.ListN.{length, take};
-ghost use Rattle.rules.specs.Text.{aloneLine, inProgramRange, endsInCR, began, opened, running, replied, readLine, textOutput};
+ghost use Rattle.rules.specs.Text.{aloneLine, inProgramRange, endsInCR, freshReply, opened, running, replied, readLine, textOutput};
 ghost use Rattle.decimal.specs.Appended.{Appended};
 ghost use Rattle.reading.specs.Meanings.{readingOf};
 ghost use Rattle.text.specs.Session.{Fits, Replies, Ready, Took, stageOf, isEnded, owedBy};
@@ -48,16 +48,17 @@ fn stop(out: &mut [u8], at: usize, v: u32) -> Reply
     }
 }
 
+// Whether the program takes these dimensions.
 fn in_program_range(n: u32, e: u32) -> bool
     ensures { λ r. ⌜ r ≡ inProgramRange n e ⌝ }
 {
     layout::in_range(n as usize, e as usize) & (n <= 8) & (e <= 256)
 }
 
-// A fresh table in the room.
+// Answers a first line that is a fresh in the program's range: a fresh table in the room.
 fn begin(n: u32, e: u32, room: &mut [u8], out: &mut [u8], at: usize) -> Reply
     requires { ⌜ (inProgramRange n e ≡ true) × (length (now room) ≡ 24680) × (at + 128 ≤ length (now out)) ⌝ }
-    ensures { λ r. ⌜ Replies (began n e) r (now (out .entry)) at (now (out .exit)) (now (room .exit)) ⌝ }
+    ensures { λ r. ⌜ Replies (freshReply n e) r (now (out .entry)) at (now (out .exit)) (now (room .exit)) ⌝ }
 {
     let m = n as usize;
     let size = layout::table_size(m, e as usize);
@@ -70,7 +71,7 @@ fn begin(n: u32, e: u32, room: &mut [u8], out: &mut [u8], at: usize) -> Reply
     }
 }
 
-// The first line.
+// Answers the first line.
 fn open(call: Call, room: &mut [u8], out: &mut [u8], at: usize) -> Reply
     requires { ⌜ (length (now room) ≡ 24680) × (at + 128 ≤ length (now out)) ⌝ }
     ensures { λ r. ⌜ Replies (opened (readingOf call)) r (now (out .entry)) at (now (out .exit)) (now (room .exit)) ⌝ }
@@ -84,7 +85,7 @@ fn open(call: Call, room: &mut [u8], out: &mut [u8], at: usize) -> Reply
     stop(out, at, 1)
 }
 
-// A later line.
+// Answers a later line.
 fn answer(call: Call, n: usize, size: usize, room: &mut [u8], out: &mut [u8], at: usize) -> Reply
     requires { ⌜ (length (now room) ≡ 24680) × (n ≤ 8) × (size ≤ 24680) × (at + 128 ≤ length (now out)) ⌝ }
     ensures { λ r. ⌜ Replies (replied (running n (take size (now (room .entry)))) (readingOf call)) r (now (out .entry)) at (now (out .exit)) (now (room .exit)) ⌝ }
@@ -98,6 +99,7 @@ fn answer(call: Call, n: usize, size: usize, room: &mut [u8], out: &mut [u8], at
     }
 }
 
+// Answers a line, by where the program stands.
 fn answer_line(stage: Stage, line: &[u8], room: &mut [u8], out: &mut [u8], at: usize) -> Reply
     requires { ⌜ Fits stage (now room) × (at + 128 ≤ length (now out)) ⌝ }
     ensures { λ r. ⌜ Replies (replied (stageOf stage (now (room .entry))) (readLine (now (line .entry)))) r (now (out .entry)) at (now (out .exit)) (now (room .exit)) ⌝ }
@@ -126,7 +128,7 @@ fn ends(line: &[u8], held: usize, b: u8) -> bool
     (b == 10) & (line[held - 1] == 13)
 }
 
-// One byte.
+// Takes one byte of the input. It ends the line, which is then answered, or it is held.
 fn take_byte(s: Session, line: &mut [u8], room: &mut [u8], b: u8, out: &mut [u8]) -> Session
     requires { ⌜ Ready s (now line) (now room) × (s .written + 128 ≤ length (now out)) ⌝ }
     ensures { λ r. ⌜ Took s (now (line .entry)) (now (room .entry)) (now (out .entry)) (b ∷ []) r (now (line .exit)) (now (room .exit)) (now (out .exit)) ⌝ }
@@ -156,6 +158,7 @@ fn take_byte(s: Session, line: &mut [u8], room: &mut [u8], b: u8, out: &mut [u8]
     s
 }
 
+// A session that has read nothing.
 pub fn start() -> Session
     ensures { λ r. ⌜ (r .held ≡ 0) × (r .stage ≡ Stage.Waiting) × ((line : List ℕ) → (room : List ℕ) → (x : List ℕ) → owedBy r line room x ≡ textOutput x) ⌝ }
 {
@@ -166,7 +169,7 @@ pub fn start() -> Session
     }
 }
 
-// The next bytes of the input. `out` has room for an answer to every byte.
+// Takes the next bytes of the input. `out` has room for an answer to every byte.
 pub fn feed(s: Session, line: &mut [u8], room: &mut [u8], chunk: &[u8], out: &mut [u8]) -> Session
     requires { ⌜ Ready s (now line) (now room) × (128 * length (now chunk) ≤ length (now out)) ⌝ }
     ensures { λ r. ⌜ Ready r (now (line .exit)) (now (room .exit)) × (r .written ≤ length (now (out .exit))) × ((x : List ℕ) → owedBy s (now (line .entry)) (now (room .entry)) ((now (chunk .entry)) ++ x) ≡ take (r .written) (now (out .exit)) ++ owedBy r (now (line .exit)) (now (room .exit)) x) ⌝ }
@@ -181,7 +184,7 @@ pub fn feed(s: Session, line: &mut [u8], room: &mut [u8], chunk: &[u8], out: &mu
     c
 }
 
-// The end of the input, where a last line may lack its CR LF. Answers how many bytes are written.
+// Answers a last line that lacks its CR LF, if there is one, and says how many bytes are written.
 pub fn finish(s: Session, line: &[u8], room: &mut [u8], out: &mut [u8]) -> usize
     requires { ⌜ Ready s (now line) (now room) × (128 ≤ length (now out)) ⌝ }
     ensures { λ r. ⌜ (r ≤ length (now (out .exit))) × (take r (now (out .exit)) ≡ owedBy s (now (line .entry)) (now (room .entry)) []) ⌝ }

@@ -1,7 +1,7 @@
 use Prim.Native.Nat.{_-_}
 use native.Mathlib.Omega.{arith}
 use borrow.Author.Needs.{needs}
-use Rattle.answers.proofs.Laws.{Written, written-starts, written-on, written-all}
+use Rattle.answers.proofs.Fields.{Written, written-starts, written-on, written-all}
 use Rattle.answers.specs.Shows.{shown}
 use Rattle.answers.proofs.put_fields.Statement.{statement}
 use Rattle.answers.proofs.put_fields.Tie as tie

@@ -1,7 +1,7 @@
 use native.Mathlib.Omega.{arith}
 use borrow.Author.Needs.{needs}
 use Rattle.rules.specs.Text.{decimal}
-use Rattle.decimal.proofs.Laws.{Spelling, spelling-starts, spelling-on, spelling-ends}
+use Rattle.decimal.proofs.Digits.{Spelling, spelling-starts, spelling-on, spelling-ends}
 use Rattle.decimal.proofs.put_digits.Statement.{statement}
 use Rattle.decimal.proofs.put_digits.Tie as tie
 

@@ -1,7 +1,7 @@
 use mathlib.Core.Path.{refl, _∙_, sym}
 use lib.Seq.{length-take-le}
 use borrow.Author.Needs.{needs}
-use Rattle.program.proofs.Laws.{stopped, goes-on}
+use Rattle.program.proofs.Turns.{stopped, goes-on}
 use Rattle.program.proofs.take_turn.Statement.{statement}
 use Rattle.program.proofs.take_turn.Tie as tie
 

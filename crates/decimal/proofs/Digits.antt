@@ -1,48 +1,19 @@
--- The digits of a number, one power of ten after the other.
-use mathlib.Core.Path.{_≡_, refl, _∙_, sym, ap, subst}
-use mathlib.Core.Bool.{Bool, true, false, _&&_, and-eq-true-iff}
-use mathlib.Core.List.{List, [], _∷_, _++_, append-nil}
+-- The digits of a number, one power of ten after the other: what they spell, a loop that writes them, a loop that counts them.
+use mathlib.Core.Path.{_≡_, _∙_, sym, ap, subst}
+use mathlib.Core.Bool.{true, false}
+use mathlib.Core.List.{List, [], _∷_, _++_}
 use Prim.Native.Nat.{ℕ, zero, suc, _+_, _-_, _*_, _/_, _%_, _^_, _≤_, _<_, suc-le-suc}
 use native.Mathlib.Omega.{arith}
-use native.Mathlib.Nat.{pow-suc, pow-succ', div-div-eq-div-mul, div-lt-iff-lt-mul, le-div-iff-mul-le, div-one, pow-le-pow-right, not-suc-le-zero, le-of-suc-le-suc, zero-add, add-zero, suc-add, add-suc}
-use lib.Dec.{leb, eqb}
-use lib.ListN.{length, getD, take, set, length-set}
-use lib.Seq.{append-snoc}
-use borrow.Author.Tests.{lt-ltb, le-ltb, leb-true, leb-false, eqb-true}
+use native.Mathlib.Nat.{pow-suc, pow-succ', div-div-eq-div-mul, div-lt-iff-lt-mul, le-div-iff-mul-le, div-one, not-suc-le-zero, le-of-suc-le-suc}
+use lib.Dec.{leb}
+use lib.ListN.{length, set}
+use borrow.Author.Tests.{lt-ltb, le-ltb, leb-true, leb-false}
 use Rattle.rules.specs.Text.{decimal, lastDigits}
 use Rattle.decimal.specs.Appended.{Appended, Digits}
 use Rattle.decimal.proofs.Texts.{appended-byte, Growing, growing-starts, growing-on, growing-as, growing-ends}
+use Rattle.decimal.proofs.Powers.{power-pos}
 
--- ---- the table
-
-abbrev pub powers : List ℕ
-powers = 1 ∷ 10 ∷ 100 ∷ 1000 ∷ 10000 ∷ 100000 ∷ 1000000 ∷ 10000000 ∷ 100000000 ∷ 1000000000 ∷ []
-
--- each entry is the power of ten of its place, counted from i
-abbrev rising : ℕ → List ℕ → Bool
-rising i [] = true
-rising i (x ∷ xs) = eqb x (10 ^ i) && rising (suc i) xs
-
-at-place : (xs : List ℕ) (i : ℕ) → rising i xs ≡ true → (k : ℕ) → k < length xs → getD xs k 0 ≡ 10 ^ (i + k)
-at-place [] i t k h = absurd (not-suc-le-zero h)
-at-place (x ∷ xs) i t zero h =
-    eqb-true x (10 ^ i) (and-eq-true-iff (eqb x (10 ^ i)) (rising (suc i) xs) .0 t .0) ∙ ap (λ (m : ℕ). 10 ^ m) (sym (add-zero i))
-at-place (x ∷ xs) i t (suc k) h =
-    at-place xs (suc i) (and-eq-true-iff (eqb x (10 ^ i)) (rising (suc i) xs) .0 t .1) k (le-of-suc-le-suc h)
-    ∙ ap (λ (m : ℕ). 10 ^ m) (suc-add i k ∙ sym (add-suc i k))
-
--- the table's rule, from one test over the whole of it
-pub power-at : (k : ℕ) → k < 10 → getD powers k 0 ≡ 10 ^ k
-power-at k h = at-place powers 0 refl k h ∙ ap (λ (m : ℕ). 10 ^ m) (zero-add k)
-
-power-pos : (i : ℕ) → 0 < 10 ^ i
-power-pos i = pow-le-pow-right {n = 10} (omega arith) {i = 0} {j = i} (omega arith)
-
--- a power is no zero divisor
-pub power-some : (x i : ℕ) → x ≡ 10 ^ i → 0 < x
-power-some x i e = subst (λ (y : ℕ). 0 < y) (sym e) (power-pos i)
-
--- ---- digits
+-- ---- what the digits spell
 
 -- the last k digits of v, leading zeros too
 abbrev pub spelled : ℕ → ℕ → List ℕ
