@@ -14,7 +14,7 @@ use Rattle.rules.specs.Text.{ran}
 use Rattle.reading.specs.declared.Call.{Call}
 use Rattle.reading.specs.Meanings.{readingOf}
 use Rattle.answers.specs.declared.Ran.{Ran}
-use Rattle.answers.specs.Shows.{Shows, shown}
+use Rattle.answers.specs.Shows.{Shows, areaRoom, shown}
 
 -- the outcome of a line whose case of the enum is known
 pub ran-as : (n : ℕ) (t : List ℕ) {x y : Call} → x ≡ y → ran n t (readingOf y) ≡ ran n t (readingOf x)
@@ -25,8 +25,8 @@ take-zeros zero k le = refl
 take-zeros (suc m) zero le = absurd (not-suc-le-zero le)
 take-zeros (suc m) (suc k) le = ap (λ (l : List ℕ). 0 ∷ l) (take-zeros m k (omega (arith, le)))
 
-pub area-length : (area : List ℕ) → area ≡ replicate 40 0 → length area ≡ 40
-area-length area e = ap length e ∙ length-replicate {A = ℕ} 40 0
+pub area-length : (area : List ℕ) → area ≡ replicate areaRoom 0 → length area ≡ areaRoom
+area-length area e = ap length e ∙ length-replicate {A = ℕ} areaRoom 0
 
 -- res says what a call that returned r and has k words answers
 abbrev pub Told : ℕ → ℕ → Ran → Type 0
@@ -45,10 +45,10 @@ count-within false k = omega arith
 
 -- F a is the outcome of the call with the area a; it was lent the first m bytes of `area`
 pub shows-called : (F : List ℕ → Outcome) {o : Outcome} (r k m : ℕ) (t a area : List ℕ) (res : Ran) → outcome r t a ≡ F (take m area)
-    → area ≡ replicate 40 0 → F (replicate m 0) ≡ o → Told r k res → length a ≡ length (take m area) → m ≡ 4 * k → m ≤ 40
+    → area ≡ replicate areaRoom 0 → F (replicate m 0) ≡ o → Told r k res → length a ≡ length (take m area) → m ≡ 4 * k → m ≤ areaRoom
     → Shows o res t (a ++ drop m area)
 shows-called F {o} r k m t a area res e zeros f told len words small =
-    let lent : take m area ≡ replicate m 0 = ap (take m) zeros ∙ take-zeros m 40 small in
+    let lent : take m area ≡ replicate m 0 = ap (take m) zeros ∙ take-zeros m areaRoom small in
     let whole : outcome r t a ≡ o = e ∙ ap F lent ∙ f in
     let size : length a ≡ 4 * k = len ∙ ap length lent ∙ length-replicate {A = ℕ} m 0 ∙ words in
     let fit : 4 * res .count ≤ 4 * k = subst (λ (c : ℕ). 4 * c ≤ 4 * k) (sym (told .1)) (count-within (eqb r 0) k) in

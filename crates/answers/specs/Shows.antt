@@ -10,6 +10,18 @@ use Rattle.rules.specs.Calls.{Outcome, answerWords}
 use Rattle.rules.specs.Text.{decimal}
 use Rattle.answers.specs.declared.Ran.{Ran}
 
+-- ---- room
+
+-- the bytes of an answer area: ten words, as many as a failure line of eight processes has
+abbrev pub areaRoom : ℕ
+areaRoom = 40
+
+-- room for an answer, which has at most 122 bytes: a number, ten fields after a comma each, and CR LF
+abbrev pub answerRoom : ℕ
+answerRoom = 128
+
+-- ---- answers
+
 -- the first `count` words of an area
 abbrev pub shown : ℕ → List ℕ → List ℕ
 shown count area = wordsOf (take (4 * count) area)

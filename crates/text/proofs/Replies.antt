@@ -5,7 +5,7 @@ use mathlib.Core.Bool.{Bool, true, cond, _&&_, and-eq-true-iff}
 use mathlib.Core.List.{List, [], _∷_, _++_}
 use Prim.Native.Nat.{ℕ, _+_, _*_, _≤_}
 use native.Mathlib.Omega.{arith}
-use native.Mathlib.Nat.{mul-le-mul, suc-ne-zero}
+use native.Mathlib.Nat.{le-refl, add-le-add, mul-le-mul, suc-ne-zero}
 use lib.Dec.{leb}
 use lib.ListN.{length, take, drop, replicate, length-replicate}
 use lib.Seq.{take-at, length-take-le}
@@ -24,11 +24,11 @@ use Rattle.reading.specs.Meanings.{readingOf}
 use Rattle.decimal.specs.Appended.{Appended}
 use Rattle.decimal.proofs.Texts.{appended-none, appended-as}
 use Rattle.answers.specs.declared.Ran.{Ran}
-use Rattle.answers.specs.Shows.{Shows, shown}
+use Rattle.answers.specs.Shows.{Shows, answerRoom, shown}
 use Rattle.text.specs.declared.Stage.{Stage}
 use Rattle.text.specs.declared.Stage.the-variants.{Running, Ended}
 use Rattle.text.specs.declared.Reply.{Reply}
-use Rattle.text.specs.Session.{stageOf, Within, Fits, Replies}
+use Rattle.text.specs.Session.{tableRoom, stageOf, Within, Fits, Replies}
 
 -- ---- a table in its room
 
@@ -39,14 +39,14 @@ in-range n e h =
     let two = and-eq-true-iff (inRange n e) (leb n 8) .0 (all .0) in
     (two .0, leb-true n 8 (two .1), leb-true e 256 (all .1))
 
+size-rises : (n m e f : ℕ) → n ≤ m → e ≤ f → size n e ≤ size m f
+size-rises n m e f h k = add-le-add (le-refl 8) (mul-le-mul (omega arith) (omega arith))
+
 -- a table in the program's range fits the room
-pub room-enough : (n e : ℕ) {s : ℕ} → text.inProgramRange n e ≡ true → s ≡ size n e → s ≤ 24680
+pub room-enough : (n e : ℕ) {s : ℕ} → text.inProgramRange n e ≡ true → s ≡ size n e → s ≤ tableRoom
 room-enough n e h eq =
     let r = in-range n e h in
-    let a : 12 * n ≤ 96 = omega (arith, r .1) in
-    let b : e + 1 ≤ 257 = omega (arith, r .2) in
-    let most : 12 * n * (e + 1) ≤ 96 * 257 = mul-le-mul a b in
-    omega (arith, eq, most)
+    omega (arith, eq, size-rises n 8 e 256 (r .1) (r .2))
 
 -- a fresh call on a table of the exact length, whatever its bytes
 pub fresh-outcome : (t : List ℕ) (n e : ℕ) → text.inProgramRange n e ≡ true → length t ≡ size n e → freshOn t n e ≡ text.freshOutcome n e
@@ -72,8 +72,8 @@ replies-as {want} {want′} {r} {before} {out} {room} {at} e h = subst (λ (w : 
 
 -- a line is answered by an outcome whose table, lent from the room, is back in it
 pub replies-answer : (n m : ℕ) (o : Outcome) (t : List ℕ) {before out : List ℕ} {at x : ℕ} (room : List ℕ)
-    → Appended before at out x (text.answerLine n o) × (x ≤ at + 128) → length t ≡ length (take m room) → length (t ++ drop m room) ≡ length room
-    → length room ≡ 24680 → m ≤ 24680 → n ≤ 8 → t ≡ o .table
+    → Appended before at out x (text.answerLine n o) × (x ≤ at + answerRoom) → length t ≡ length (take m room) → length (t ++ drop m room) ≡ length room
+    → length room ≡ tableRoom → m ≤ tableRoom → n ≤ 8 → t ≡ o .table
     → Replies (text.reply (text.answerLine n o) (text.running n (o .table))) (record { stage = Running n m; written = x }) before at out (t ++ drop m room)
 replies-answer n m o t room put lent back len le eight e =
     record {
@@ -85,8 +85,8 @@ replies-answer n m o t room put lent back len le eight e =
 
 -- the line of what a call shows is the line of its outcome
 pub call-line : (n : ℕ) (o : Outcome) (res : Ran) (t area : List ℕ) {before out : List ℕ} {at x : ℕ} → Shows o res t area
-    → Appended before at out x (text.decimal (res .returned) ++ text.furtherFields (n + 2) (shown (res .count) area) ++ text.lineEnd) × (x ≤ at + 128)
-    → Appended before at out x (text.answerLine n o) × (x ≤ at + 128)
+    → Appended before at out x (text.decimal (res .returned) ++ text.furtherFields (n + 2) (shown (res .count) area) ++ text.lineEnd) × (x ≤ at + answerRoom)
+    → Appended before at out x (text.answerLine n o) × (x ≤ at + answerRoom)
 call-line n o res t area h put = (
   appended-as
       (ap (λ (r : ℕ). text.decimal r ++ text.furtherFields (n + 2) (shown (res .count) area) ++ text.lineEnd) (h .number)
@@ -97,7 +97,7 @@ call-line n o res t area h put = (
 
 -- the program ends with the one field v
 pub replies-stop : (v : ℕ) (r : Reply) {want : text.Reply} {before out : List ℕ} {at : ℕ} (room : List ℕ)
-    → Appended before at out (r .written) (text.aloneLine v) × (r .stage ≡ Ended) × (r .written ≤ at + 128) → length room ≡ 24680
+    → Appended before at out (r .written) (text.aloneLine v) × (r .stage ≡ Ended) × (r .written ≤ at + answerRoom) → length room ≡ tableRoom
     → text.reply (text.aloneLine v) text.ended ≡ want → Replies want r before at out room
 replies-stop v r {want} {before} {out} {at} room put len e =
     replies-as e
@@ -142,7 +142,7 @@ replied-as {g} {g′} {x} {y} room e f =
 
 -- ---- stages that are known
 
-pub running-fits : (g : Stage) {n m : ℕ} → g ≡ Running n m → Within g → (n ≤ 8) × (m ≤ 24680)
+pub running-fits : (g : Stage) {n m : ℕ} → g ≡ Running n m → Within g → (n ≤ 8) × (m ≤ tableRoom)
 running-fits g e h = subst Within e h
 
 -- at its end the program writes nothing

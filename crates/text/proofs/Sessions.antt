@@ -11,12 +11,13 @@ use lib.ListN.{length, getD, set, take, length-append, length-set}
 use lib.Seq.{take-take, take-suc, take-suc-set, take-all, length-take-le, getD-take, getD-at}
 use borrow.Author.Tests.{lt-leb}
 use Rattle.rules.specs.Text as text
+use Rattle.answers.specs.Shows.{answerRoom}
 use Rattle.reading.proofs.Tests.{picks, skips}
 use Rattle.text.specs.declared.Stage.{Stage}
 use Rattle.text.specs.declared.Stage.the-variants.{Ended}
 use Rattle.text.specs.declared.Session.{Session}
 use Rattle.text.specs.declared.Reply.{Reply}
-use Rattle.text.specs.Session.{stageOf, Replies, owedBy, Ready, Took}
+use Rattle.text.specs.Session.{lineRoom, stageOf, Replies, owedBy, Ready, Took}
 
 -- ---- a line that is held
 
@@ -26,7 +27,7 @@ ends-at line held le pos =
     ap (λ (m : ℕ). eqb (getD (take held line) (m - 1) 0) 13) (length-take-le held line le)
     ∙ ap (λ (b : ℕ). eqb b 13) (getD-take held line (held - 1) 0 (omega (arith, pos)))
 
-pub ends-some : (line : List ℕ) (held b : ℕ) → (held ≤ 66) × (length line ≡ 66) → (held ≡ 0 → ⊥)
+pub ends-some : (line : List ℕ) (held b : ℕ) → (held ≤ lineRoom) × (length line ≡ lineRoom) → (held ≡ 0 → ⊥)
     → (eqb b 10 && eqb (getD line (held - 1) 0) 13) ≡ (eqb b 10 && text.endsInCR (take held line))
 ends-some line held b h ne =
     let le : held ≤ length line = omega (arith, h .0, h .1) in
@@ -102,7 +103,7 @@ ended-line g h b x e t = ap (text.answers g) (picks _ _ (sym e ∙ t))
 
 -- a byte that is held
 pub took-byte : (s : Session) (line room out : List ℕ) (b : ℕ) {r : Bool} → Ready s line room → r ≡ (eqb b 10 && text.endsInCR (take (s .held) line))
-    → r ≡ false → s .held < 66
+    → r ≡ false → s .held < lineRoom
     → Took s line room out (b ∷ []) (record { held = s .held + 1; stage = s .stage; written = s .written }) (set line (s .held) b) room out
 took-byte s line room out b ready e f lt =
     let n = s .held in
@@ -121,7 +122,7 @@ took-byte s line room out b ready e f lt =
 
 -- a byte of a line that is too long already: it takes the place of the last
 pub took-last : (s : Session) (line room out : List ℕ) (b : ℕ) {r : Bool} → Ready s line room → r ≡ (eqb b 10 && text.endsInCR (take (s .held) line))
-    → r ≡ false → 66 ≤ s .held → Took s line room out (b ∷ []) s (set line 65 b) room out
+    → r ≡ false → lineRoom ≤ s .held → Took s line room out (b ∷ []) s (set line 65 b) room out
 took-last s line room out b ready e f ge =
     let n = s .held in
     let full : n ≡ 66 = omega (arith, ge, ready .0) in
@@ -197,7 +198,7 @@ took-next {s} {r} {q} {line} {room} {out} {line₁} {room₁} {out₁} {line₂}
 
 -- a whole chunk, from a session that has written nothing
 pub took-chunk : (s : Session) (line room out chunk : List ℕ) {q : Session} {line′ room′ out′ : List ℕ} (i : ℕ) → length chunk ≤ i
-    → 128 * length chunk ≤ length out
+    → answerRoom * length chunk ≤ length out
     → Took (record { held = s .held; stage = s .stage; written = 0 }) line room out (take i chunk) q line′ room′ out′
     → Ready q line′ room′ × (q .written ≤ length out′)
     × ((x : List ℕ) → owedBy s line room (chunk ++ x) ≡ take (q .written) out′ ++ owedBy q line′ room′ x)
@@ -219,7 +220,7 @@ last-answer g [] pos = absurd (not-suc-le-zero pos)
 last-answer g (b ∷ h) pos = append-nil (text.replied g (text.readLine (b ∷ h)) .text)
 
 -- a last line that lacks its CR LF
-pub owes-line : (s : Session) (line room out : List ℕ) (a : Reply) (out′ room′ : List ℕ) → Ready s line room → (s .held ≡ 0 → ⊥) → 128 ≤ length out
+pub owes-line : (s : Session) (line room out : List ℕ) (a : Reply) (out′ room′ : List ℕ) → Ready s line room → (s .held ≡ 0 → ⊥) → answerRoom ≤ length out
     → Replies (text.replied (stageOf (s .stage) room) (text.readLine (take (s .held) line))) a out 0 out′ room′
     → (a .written ≤ length out′) × (take (a .written) out′ ≡ owedBy s line room [])
 owes-line s line room out a out′ room′ ready ne enough rep =
