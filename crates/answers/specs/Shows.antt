@@ -1,13 +1,13 @@
 -- What the functions that run a line's call and write its answer promise.
 use mathlib.Core.Path.{_≡_}
 use mathlib.Core.Bool.{cond}
-use mathlib.Core.List.{List, [], _∷_}
-use Prim.Native.Nat.{ℕ, _*_, _≤_}
+use mathlib.Core.List.{List, [], _∷_, _++_}
+use Prim.Native.Nat.{ℕ, _+_, _*_, _≤_}
 use lib.Dec.{ltb}
 use lib.ListN.{length, take}
 use Rattle.xdr.specs.Words.{word, words as wordsOf}
 use Rattle.rules.specs.Calls.{Outcome, answerWords}
-use Rattle.rules.specs.Text.{decimal}
+use Rattle.rules.specs.Text.{decimal, furtherFields, lineEnd}
 use Rattle.answers.specs.declared.Ran.{Ran}
 
 -- ---- room
@@ -36,3 +36,7 @@ pub record Shows (o : Outcome) (r : Ran) (table : List ℕ) (area : List ℕ) : 
 -- field i of an answer: a comma, and word i of the area where i is below `count`
 abbrev pub fieldOr : ℕ → List ℕ → ℕ → List ℕ
 fieldOr count area i = 44 ∷ cond (ltb i count) (decimal (word area i)) []
+
+-- the line of n + 3 fields that tells r and the words of the area
+abbrev pub shownLine : ℕ → Ran → List ℕ → List ℕ
+shownLine n r area = decimal (r .returned) ++ furtherFields (n + 2) (shown (r .count) area) ++ lineEnd

@@ -1,14 +1,13 @@
 // The calls of the text program and the lines that it writes (document 01).
 ghost use mathlib.Core.Path.{_≡_};
 ghost use mathlib.Core.Bool.{cond};
-ghost use mathlib.Core.List.{_++_};
 ghost use Prim.Native.Nat.{_+_, _*_, _≤_};
 ghost use lib.Dec.{eqb};
 ghost use lib.ListN.{length, replicate};
-ghost use Rattle.rules.specs.Text.{decimal, furtherFields, lineEnd, aloneLine, ran as ranOf};
+ghost use Rattle.rules.specs.Text.{furtherFields, lineEnd, aloneLine, ran as ranOf};
 ghost use Rattle.decimal.specs.Appended.{Appended};
 ghost use Rattle.reading.specs.Meanings.{readingOf};
-ghost use Rattle.answers.specs.Shows.{Shows, areaRoom, answerRoom, fieldOr, shown};
+ghost use Rattle.answers.specs.Shows.{Shows, areaRoom, answerRoom, fieldOr, shown, shownLine};
 use reading::Call;
 
 // The bytes of an answer area: ten words, as many as a failure line of eight processes has.
@@ -103,7 +102,7 @@ fn put_end(out: &mut [u8], at: usize) -> usize
 // Writes a line of n + 3 fields: the returned number, then the words answered.
 pub fn put_answer(out: &mut [u8], at: usize, n: usize, r: Ran, area: &[u8]) -> usize
     requires { ⌜ (n ≤ 8) × (at + answerRoom ≤ length (now out)) × (4 * r .count ≤ length (now area)) ⌝ }
-    ensures { λ x. ⌜ Appended (now (out .entry)) at (now (out .exit)) x (decimal (r .returned) ++ furtherFields (n + 2) (shown (r .count) (now (area .entry))) ++ lineEnd) × (x ≤ at + answerRoom) ⌝ }
+    ensures { λ x. ⌜ Appended (now (out .entry)) at (now (out .exit)) x (shownLine n r (now (area .entry))) × (x ≤ at + answerRoom) ⌝ }
 {
     let count = r.count;
     let a = decimal::put(out, at, r.returned);

@@ -10,7 +10,8 @@ use lib.Dec.{leb, eqb}
 use lib.ListN.{length, getD, take, drop, drop-of-length-le, length-drop}
 use lib.Seq.{drop-cons, take-suc, take-all, getD-drop}
 use borrow.Author.Tests.{lt-ltb, le-ltb, le-leb, lt-leb, eq-eqb, ne-eqb, eqb-true, leb-true}
-use Rattle.rules.specs.Text.{Field, empty, number, other, Reading, unreadable, Word, freshWord, checkpointWord, sendWord, receiptWord, lineWord, failedWord, noWord, freshBytes, checkpointBytes, sendBytes, receiptBytes, lineBytes, failedBytes, Ask, oneNumber, twoNumbers, threeNumbers, asked, wordOf, same, digit, digits, valueFrom, fieldOf, fieldsFrom, readLine}
+use Rattle.rules.specs.Text.{Word, freshWord, checkpointWord, sendWord, receiptWord, lineWord, failedWord, noWord, freshBytes, checkpointBytes, sendBytes, receiptBytes, lineBytes, failedBytes, wordOf, same}
+use Rattle.rules.specs.Text.{Field, empty, number, other, Reading, unreadable, Ask, oneNumber, twoNumbers, threeNumbers, asked, digit, digits, valueFrom, fieldOf, fieldsFrom, readLine}
 use Rattle.reading.specs.declared.Field as reading
 use Rattle.reading.specs.Meanings.{fieldAs, Ends}
 use Rattle.reading.proofs.Tests.{picks, skips}

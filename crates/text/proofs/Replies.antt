@@ -24,7 +24,7 @@ use Rattle.reading.specs.Meanings.{readingOf}
 use Rattle.decimal.specs.Appended.{Appended}
 use Rattle.decimal.proofs.Texts.{appended-none, appended-as}
 use Rattle.answers.specs.declared.Ran.{Ran}
-use Rattle.answers.specs.Shows.{Shows, answerRoom, shown}
+use Rattle.answers.specs.Shows.{Shows, answerRoom, shown, shownLine}
 use Rattle.text.specs.declared.Stage.{Stage}
 use Rattle.text.specs.declared.Stage.the-variants.{Running, Ended}
 use Rattle.text.specs.declared.Reply.{Reply}
@@ -85,7 +85,7 @@ replies-answer n m o t room put lent back len le eight e =
 
 -- the line of what a call shows is the line of its outcome
 pub call-line : (n : ℕ) (o : Outcome) (res : Ran) (t area : List ℕ) {before out : List ℕ} {at x : ℕ} → Shows o res t area
-    → Appended before at out x (text.decimal (res .returned) ++ text.furtherFields (n + 2) (shown (res .count) area) ++ text.lineEnd) × (x ≤ at + answerRoom)
+    → Appended before at out x (shownLine n res area) × (x ≤ at + answerRoom)
     → Appended before at out x (text.answerLine n o) × (x ≤ at + answerRoom)
 call-line n o res t area h put = (
   appended-as

@@ -17,7 +17,7 @@ use Rattle.text.specs.declared.Stage.{Stage}
 use Rattle.text.specs.declared.Stage.the-variants.{Ended}
 use Rattle.text.specs.declared.Session.{Session}
 use Rattle.text.specs.declared.Reply.{Reply}
-use Rattle.text.specs.Session.{lineRoom, stageOf, Replies, owedBy, Ready, Took}
+use Rattle.text.specs.Session.{lineRoom, stageOf, Replies, owedBy, Ready, Took, TookChunk}
 
 -- ---- a line that is held
 
@@ -200,14 +200,14 @@ took-next {s} {r} {q} {line} {room} {out} {line₁} {room₁} {out₁} {line₂}
 pub took-chunk : (s : Session) (line room out chunk : List ℕ) {q : Session} {line′ room′ out′ : List ℕ} (i : ℕ) → length chunk ≤ i
     → answerRoom * length chunk ≤ length out
     → Took (record { held = s .held; stage = s .stage; written = 0 }) line room out (take i chunk) q line′ room′ out′
-    → Ready q line′ room′ × (q .written ≤ length out′)
-    × ((x : List ℕ) → owedBy s line room (chunk ++ x) ≡ take (q .written) out′ ++ owedBy q line′ room′ x)
+    → TookChunk s line room chunk q line′ room′ out′
 took-chunk s line room out chunk i le most h =
-    let all : take i chunk ≡ chunk = take-all i chunk le in (
-      h .ready,
-      omega (arith, h .most, h .size, most, ap length all),
-      λ x. ap (λ (l : List ℕ). owedBy s line room (l ++ x)) (sym all) ∙ h .total x,
-    )
+    let all : take i chunk ≡ chunk = take-all i chunk le in
+    record {
+      total = λ x. ap (λ (l : List ℕ). owedBy s line room (l ++ x)) (sym all) ∙ h .total x;
+      ready = h .ready;
+      within = omega (arith, h .most, h .size, most, ap length all);
+    }
 
 -- ---- the end of the input
 

@@ -71,3 +71,9 @@ pub record Took (s : Session) (line room out fed : List ℕ) (r : Session) (line
   pub ready : Ready r line′ room′
   pub most : r .written ≤ s .written + answerRoom * length fed
   pub size : length out′ ≡ length out
+
+-- the same for a chunk of the input, where nothing was written before: `out′` begins with what was written for it
+pub record TookChunk (s : Session) (line room chunk : List ℕ) (r : Session) (line′ room′ out′ : List ℕ) : Type 0 where
+  pub total : (x : List ℕ) → owedBy s line room (chunk ++ x) ≡ take (r .written) out′ ++ owedBy r line′ room′ x
+  pub ready : Ready r line′ room′
+  pub within : r .written ≤ length out′

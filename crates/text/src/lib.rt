@@ -3,7 +3,7 @@
 // A session is fed the input chunk by chunk, cut anywhere. What it has written and what it still owes make up `textOutput` of the whole.
 ghost use mathlib.Core.Path.{_≡_};
 ghost use mathlib.Core.Bool.{true, _&&_};
-ghost use mathlib.Core.List.{List, [], _∷_, _++_};
+ghost use mathlib.Core.List.{List, [], _∷_};
 ghost use Prim.Native.Nat.{ℕ, _+_, _*_, _≤_};
 ghost use lib.Dec.{eqb};
 ghost use lib.ListN.{length, take};
@@ -11,7 +11,7 @@ ghost use Rattle.rules.specs.Text.{aloneLine, inProgramRange, endsInCR, freshRe
 ghost use Rattle.decimal.specs.Appended.{Appended};
 ghost use Rattle.answers.specs.Shows.{answerRoom};
 ghost use Rattle.reading.specs.Meanings.{readingOf};
-ghost use Rattle.text.specs.Session.{tableRoom, lineRoom, Fits, Replies, Ready, Took, stageOf, isEnded, owedBy};
+ghost use Rattle.text.specs.Session.{tableRoom, lineRoom, Fits, Replies, Ready, Took, TookChunk, stageOf, isEnded, owedBy};
 use reading::Call;
 
 // The bytes of the largest table that the program takes, of 8 processes with 256 records each.
@@ -179,7 +179,7 @@ pub fn start() -> Session
 // Takes the next bytes of the input. `out` has room for an answer to every byte.
 pub fn feed(s: Session, line: &mut [u8], room: &mut [u8], chunk: &[u8], out: &mut [u8]) -> Session
     requires { ⌜ Ready s (now line) (now room) × (answerRoom * length (now chunk) ≤ length (now out)) ⌝ }
-    ensures { λ r. ⌜ Ready r (now (line .exit)) (now (room .exit)) × (r .written ≤ length (now (out .exit))) × ((x : List ℕ) → owedBy s (now (line .entry)) (now (room .entry)) ((now (chunk .entry)) ++ x) ≡ take (r .written) (now (out .exit)) ++ owedBy r (now (line .exit)) (now (room .exit)) x) ⌝ }
+    ensures { λ r. ⌜ TookChunk s (now (line .entry)) (now (room .entry)) (now (chunk .entry)) r (now (line .exit)) (now (room .exit)) (now (out .exit)) ⌝ }
 {
     let mut c = s;
     c.written = 0;
