@@ -37,7 +37,9 @@ fn take_turn(
     to: i32,
 ) -> Turn
     requires { ⌜ Ready s (now line) (now room) × (1024 * answerRoom ≤ length (now out)) ⌝ }
-    ensures { λ r. ⌜ Ready (r .session) (now (line .exit)) (now (room .exit)) × (length (now (out .exit)) ≡ length (now (out .entry))) × (r .on ≡ true → isEnded (r .session .stage) ≡ false) ⌝ }
+    ensures { λ r. ⌜ Ready (r .session) (now (line .exit)) (now (room .exit))
+        × (length (now (out .exit)) ≡ length (now (out .entry)))
+        × (r .on ≡ true → isEnded (r .session .stage) ≡ false) ⌝ }
 {
     let mut chunk = [0u8; CHUNK];
     let got = libc::read(from, &mut chunk);

@@ -25,7 +25,7 @@ lineRoom = 66
 
 -- ---- where the program stands
 
--- where the program stands, in document 01's terms: the table lies in the first bytes of its room
+-- the stage in document 01's terms; the table lies in the first bytes of its room
 abbrev pub stageOf : Stage → List ℕ → text.Stage
 stageOf Waiting room = text.waiting
 stageOf (Running n size) room = text.running n (take size room)
@@ -37,12 +37,13 @@ isEnded Waiting = false
 isEnded (Running n size) = false
 isEnded Ended = true
 
--- a table of at most eight processes lies in the room
+-- a table, if there is one, is of at most eight processes and not longer than its room
 abbrev pub Within : Stage → Type 0
 Within Waiting = Unit {0}
 Within (Running n size) = (n ≤ 8) × (size ≤ tableRoom)
 Within Ended = Unit {0}
 
+-- the room is that of the largest table, whatever table lies in it
 abbrev pub Fits : Stage → List ℕ → Type 0
 Fits g room = (length room ≡ tableRoom) × Within g
 
@@ -72,7 +73,7 @@ pub record Took (s : Session) (line room out fed : List ℕ) (r : Session) (line
   pub most : r .written ≤ s .written + answerRoom * length fed
   pub size : length out′ ≡ length out
 
--- the same for a chunk of the input, where nothing was written before: `out′` begins with what was written for it
+-- the session s took a chunk of the input and became r: what was owed is what `out′` now begins with and what is owed after it
 pub record TookChunk (s : Session) (line room chunk : List ℕ) (r : Session) (line′ room′ out′ : List ℕ) : Type 0 where
   pub total : (x : List ℕ) → owedBy s line room (chunk ++ x) ≡ take (r .written) out′ ++ owedBy r line′ room′ x
   pub ready : Ready r line′ room′
