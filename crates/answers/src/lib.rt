@@ -1,15 +1,20 @@
 // The calls of the text program and the lines that it writes (document 01).
 ghost use mathlib.Core.Path.{_≡_};
 ghost use mathlib.Core.Bool.{cond};
-ghost use mathlib.Core.List.{_++_};
 ghost use Prim.Native.Nat.{_+_, _*_, _≤_};
 ghost use lib.Dec.{eqb};
 ghost use lib.ListN.{length, replicate};
-ghost use Rattle.rules.specs.Text.{decimal, furtherFields, lineEnd, aloneLine, ran as ranOf};
+ghost use Rattle.rules.specs.Text.{furtherFields, lineEnd, aloneLine, ran as ranOf};
 ghost use Rattle.decimal.specs.Appended.{Appended};
 ghost use Rattle.reading.specs.Meanings.{readingOf};
-ghost use Rattle.answers.specs.Shows.{Shows, fieldOr, shown};
+ghost use Rattle.answers.specs.Shows.{Shows, areaRoom, answerRoom, fieldOr, shown, shownLine};
 use reading::Call;
+
+// The bytes of an answer area: ten words, as many as a failure line of eight processes has.
+pub const AREA_ROOM: usize = 40;
+
+// Room for an answer.
+pub const ANSWER_ROOM: usize = 128;
 
 // A returned number, and how many words of the area are answered.
 pub struct Ran {
@@ -17,7 +22,7 @@ pub struct Ran {
     pub count: usize,
 }
 
-// A refused call answers no words.
+// What a call that returned this number answers: `count` words, or none where it was refused.
 pub fn told(returned: u32, count: usize) -> Ran
     ensures { λ r. ⌜ (r .returned ≡ returned) × (r .count ≡ cond (eqb returned 0) count 0) ⌝ }
 {
@@ -33,9 +38,9 @@ pub fn told(returned: u32, count: usize) -> Ran
     }
 }
 
-// Runs a line's call on a table of n processes. The area is ten words, all 0: as many as a failure line of eight processes has.
+// Runs a line's call on a table of n processes. The area is all 0.
 pub fn run(call: Call, n: usize, table: &mut [u8], area: &mut [u8]) -> Ran
-    requires { ⌜ (n ≤ 8) × (now area ≡ replicate 40 0) ⌝ }
+    requires { ⌜ (n ≤ 8) × (now area ≡ replicate areaRoom 0) ⌝ }
     ensures { λ r. ⌜ Shows (ranOf n (now (table .entry)) (readingOf call)) r (now (table .exit)) (now (area .exit)) ⌝ }
 {
     match call {
@@ -58,7 +63,7 @@ pub fn run(call: Call, n: usize, table: &mut [u8], area: &mut [u8]) -> Ran
     }
 }
 
-// Writes a comma and field i of the answer: word i of the area if there are as many, else nothing.
+// Writes a comma and field i of the answer: word i of the area where i is below `count`, else nothing.
 fn put_field(out: &mut [u8], at: usize, area: &[u8], count: usize, i: usize) -> usize
     requires { ⌜ (at + 11 ≤ length (now out)) × (4 * count ≤ length (now area)) ⌝ }
     ensures { λ r. ⌜ Appended (now (out .entry)) at (now (out .exit)) r (fieldOr count (now (area .entry)) i) × (r ≤ at + 11) ⌝ }
@@ -84,6 +89,7 @@ fn put_fields(out: &mut [u8], at: usize, area: &[u8], count: usize, k: usize) ->
     to
 }
 
+// Writes CR LF.
 fn put_end(out: &mut [u8], at: usize) -> usize
     requires { ⌜ at + 2 ≤ length (now out) ⌝ }
     ensures { λ r. ⌜ Appended (now (out .entry)) at (now (out .exit)) r lineEnd × (r ≤ at + 2) ⌝ }
@@ -95,8 +101,8 @@ fn put_end(out: &mut [u8], at: usize) -> usize
 
 // Writes a line of n + 3 fields: the returned number, then the words answered.
 pub fn put_answer(out: &mut [u8], at: usize, n: usize, r: Ran, area: &[u8]) -> usize
-    requires { ⌜ (n ≤ 8) × (at + 128 ≤ length (now out)) × (4 * r .count ≤ length (now area)) ⌝ }
-    ensures { λ x. ⌜ Appended (now (out .entry)) at (now (out .exit)) x (decimal (r .returned) ++ furtherFields (n + 2) (shown (r .count) (now (area .entry))) ++ lineEnd) × (x ≤ at + 128) ⌝ }
+    requires { ⌜ (n ≤ 8) × (at + answerRoom ≤ length (now out)) × (4 * r .count ≤ length (now area)) ⌝ }
+    ensures { λ x. ⌜ Appended (now (out .entry)) at (now (out .exit)) x (shownLine n r (now (area .entry))) × (x ≤ at + answerRoom) ⌝ }
 {
     let count = r.count;
     let a = decimal::put(out, at, r.returned);
@@ -106,8 +112,8 @@ pub fn put_answer(out: &mut [u8], at: usize, n: usize, r: Ran, area: &[u8]) -> u
 
 // Writes a line of the one field v.
 pub fn put_alone(out: &mut [u8], at: usize, v: u32) -> usize
-    requires { ⌜ at + 128 ≤ length (now out) ⌝ }
-    ensures { λ r. ⌜ Appended (now (out .entry)) at (now (out .exit)) r (aloneLine v) × (r ≤ at + 128) ⌝ }
+    requires { ⌜ at + answerRoom ≤ length (now out) ⌝ }
+    ensures { λ r. ⌜ Appended (now (out .entry)) at (now (out .exit)) r (aloneLine v) × (r ≤ at + answerRoom) ⌝ }
 {
     let a = decimal::put(out, at, v);
     put_end(out, a)

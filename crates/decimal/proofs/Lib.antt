@@ -1,2 +1,3 @@
-pub mod Laws
+pub mod Powers
 pub mod Texts
+pub mod Digits

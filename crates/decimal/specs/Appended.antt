@@ -2,12 +2,13 @@
 use mathlib.Core.Path.{_≡_}
 use mathlib.Core.List.{List, _++_}
 use Prim.Native.Nat.{ℕ, _-_, _^_, _≤_, _<_}
-use lib.ListN.{length, take}
+use lib.ListN.{length, take, drop}
 
--- the text s is written to `before` from `at` on: `after`, in which the next byte goes to r
+-- the text s is written to `before` from `at` on, which leaves `after`; the next byte goes to r, and the bytes from there on are as they were
 pub record Appended (before : List ℕ) (at : ℕ) (after : List ℕ) (r : ℕ) (s : List ℕ) : Type 0 where
   pub room : length after ≡ length before
   pub text : take r after ≡ take at before ++ s
+  pub rest : drop r after ≡ drop r before
 
 -- v has k digits, up to ten, and 0 has one
 abbrev pub Digits : ℕ → ℕ → Type 0

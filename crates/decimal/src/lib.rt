@@ -44,12 +44,12 @@ fn digit(v: u32, i: usize) -> u8
     48 + (v / power(i) % 10) as u8
 }
 
-// Writes v to out from `at` on, and answers where the next byte goes.
-pub fn put(out: &mut [u8], at: usize, v: u32) -> usize
-    requires { ⌜ at + 10 ≤ length (now out) ⌝ }
+// Writes v, which has k digits, to out from `at` on, and answers where the next byte goes.
+fn put_digits(out: &mut [u8], at: usize, v: u32, k: usize) -> usize
+    requires { ⌜ Digits v k × (at + 10 ≤ length (now out)) ⌝ }
     ensures { λ r. ⌜ Appended (now (out .entry)) at (now (out .exit)) r (decimal v) × (r ≤ at + 10) ⌝ }
 {
-    let mut i = count(v);
+    let mut i = k;
     let mut to = at;
     while i > 0 {
         i -= 1;
@@ -57,4 +57,12 @@ pub fn put(out: &mut [u8], at: usize, v: u32) -> usize
         to += 1;
     }
     to
+}
+
+// Writes v to out from `at` on, and answers where the next byte goes.
+pub fn put(out: &mut [u8], at: usize, v: u32) -> usize
+    requires { ⌜ at + 10 ≤ length (now out) ⌝ }
+    ensures { λ r. ⌜ Appended (now (out .entry)) at (now (out .exit)) r (decimal v) × (r ≤ at + 10) ⌝ }
+{
+    put_digits(out, at, v, count(v))
 }

@@ -1,1 +1,1 @@
-pub mod Laws
+pub mod Turns

@@ -1,4 +1,4 @@
--- The side that a test picks.
+-- What a choice is when its test is known.
 use mathlib.Core.Path.{_≡_, ap}
 use mathlib.Core.Bool.{Bool, true, false, cond}
 

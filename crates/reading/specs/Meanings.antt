@@ -12,12 +12,13 @@ use Rattle.reading.specs.declared.Field.the-variants as field
 use Rattle.reading.specs.declared.Call.{Call}
 use Rattle.reading.specs.declared.Call.the-variants as call
 
+-- what a field holds, in document 01's terms
 abbrev pub fieldAs : Field → text.Field
 fieldAs field.Empty = text.empty
 fieldAs (field.Number v) = text.number v
 fieldAs field.Other = text.other
 
--- the word and the numbers of each case
+-- what a line says, in document 01's terms: the word and the numbers of each case
 abbrev pub readingOf : Call → text.Reading
 readingOf (call.Fresh n e) = text.call (text.fresh n e)
 readingOf (call.Checkpoint p) = text.call (text.step p checkpoint)

@@ -24,6 +24,7 @@ pub enum Call {
     Unreadable,
 }
 
+// Whether b is a digit.
 fn digit(b: u8) -> bool
     ensures { λ r. ⌜ r ≡ digitOf b ⌝ }
 {
@@ -57,6 +58,7 @@ fn read_field(s: &[u8]) -> Field
     Field::Number(v as u32)
 }
 
+// Whether two texts are the same.
 fn same(s: &[u8], t: &[u8]) -> bool
     ensures { λ r. ⌜ r ≡ sameBytes (now (s .entry)) (now (t .entry)) ⌝ }
 {
@@ -104,7 +106,7 @@ fn with_one(w: &[u8], a: u32) -> Call
     Call::Unreadable
 }
 
-// The same with two numbers, and with three.
+// The call that the word w makes with two numbers.
 fn with_two(w: &[u8], a: u32, b: u32) -> Call
     ensures { λ r. ⌜ readingOf r ≡ asked (wordOf (now (w .entry))) (number a) (number b) empty ⌝ }
 {
@@ -117,6 +119,7 @@ fn with_two(w: &[u8], a: u32, b: u32) -> Call
     Call::Unreadable
 }
 
+// The call that the word w makes with three numbers.
 fn with_three(w: &[u8], a: u32, b: u32, c: u32) -> Call
     ensures { λ r. ⌜ readingOf r ≡ asked (wordOf (now (w .entry))) (number a) (number b) (number c) ⌝ }
 {
@@ -126,7 +129,7 @@ fn with_three(w: &[u8], a: u32, b: u32, c: u32) -> Call
     Call::Unreadable
 }
 
-// The call of the word w, the numbers a and b, and the last field; then those with two and with three fields more.
+// The call of the word w and the fields a, b and z, of which the first two are numbers.
 fn after_two(w: &[u8], a: u32, b: u32, z: Field) -> Call
     ensures { λ r. ⌜ readingOf r ≡ asked (wordOf (now (w .entry))) (number a) (number b) (fieldAs z) ⌝ }
 {
@@ -137,6 +140,7 @@ fn after_two(w: &[u8], a: u32, b: u32, z: Field) -> Call
     }
 }
 
+// The call of the word w and the fields a, y and z, of which the first is a number.
 fn after_one(w: &[u8], a: u32, y: Field, z: Field) -> Call
     ensures { λ r. ⌜ readingOf r ≡ asked (wordOf (now (w .entry))) (number a) (fieldAs y) (fieldAs z) ⌝ }
 {
@@ -151,6 +155,7 @@ fn after_one(w: &[u8], a: u32, y: Field, z: Field) -> Call
     }
 }
 
+// The call of the word w and the fields x, y and z.
 fn after_word(w: &[u8], x: Field, y: Field, z: Field) -> Call
     ensures { λ r. ⌜ readingOf r ≡ asked (wordOf (now (w .entry))) (fieldAs x) (fieldAs y) (fieldAs z) ⌝ }
 {

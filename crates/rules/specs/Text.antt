@@ -24,7 +24,7 @@ abbrev pub lastLine : List ℕ → List (List ℕ)
 lastLine [] = []
 lastLine (b ∷ s) = (b ∷ s) ∷ []
 
--- the lines of the input, of which `held` has begun; CR LF together end a line, and nothing else does
+-- the lines of an input, where the bytes `held` of the first one are read already; CR LF together end a line, and nothing else does
 abbrev pub linesFrom : List ℕ → List ℕ → List (List ℕ)
 linesFrom held [] = lastLine held
 linesFrom held (b ∷ s) =
@@ -32,14 +32,16 @@ linesFrom held (b ∷ s) =
 
 -- ---- fields
 
--- the fields of a line, of which `held` has begun
+-- the fields of a line, where the bytes `held` of the first one are read already
 abbrev pub fieldsFrom : List ℕ → List ℕ → List (List ℕ)
 fieldsFrom held [] = held ∷ []
 fieldsFrom held (b ∷ s) = cond (eqb b 44) (held ∷ fieldsFrom [] s) (fieldsFrom (held ++ (b ∷ [])) s)
 
+-- a byte that is a digit
 abbrev pub digit : ℕ → Bool
 digit b = leb 48 b && leb b 57
 
+-- bytes that are all digits
 abbrev pub digits : List ℕ → Bool
 digits [] = true
 digits (b ∷ s) = digit b && digits s
@@ -86,7 +88,7 @@ pub data Word : Type 0 where
   failedWord : Word
   noWord : Word
 
--- their bytes
+-- the words' bytes
 abbrev pub freshBytes : List ℕ
 freshBytes = 102 ∷ 114 ∷ 101 ∷ 115 ∷ 104 ∷ []
 
@@ -105,6 +107,7 @@ lineBytes = 108 ∷ 105 ∷ 110 ∷ 101 ∷ []
 abbrev pub failedBytes : List ℕ
 failedBytes = 102 ∷ 97 ∷ 105 ∷ 108 ∷ 101 ∷ 100 ∷ []
 
+-- the word that a text is
 abbrev pub wordOf : List ℕ → Word
 wordOf s =
     cond (same s freshBytes) freshWord
@@ -135,6 +138,7 @@ twoNumbers x y z f = withNumber x (λ a. withNumber y (λ b. withEmpty z (call (
 abbrev pub threeNumbers : Field → Field → Field → (ℕ → ℕ → ℕ → Ask) → Reading
 threeNumbers x y z f = withNumber x (λ a. withNumber y (λ b. withNumber z (λ c. call (f a b c))))
 
+-- what a line says with this word and these three fields
 abbrev pub asked : Word → Field → Field → Field → Reading
 asked freshWord x y z = twoNumbers x y z fresh
 asked checkpointWord x y z = oneNumber x y z (λ p. step p checkpoint)
@@ -144,7 +148,7 @@ asked lineWord x y z = oneNumber x y z line
 asked failedWord x y z = oneNumber x y z failed
 asked noWord x y z = unreadable
 
--- at most 64 bytes, four fields
+-- what a line says: it has at most 64 bytes and four fields
 unfoldable pub readLine : List ℕ → Reading
 readLine s =
     let fields = fieldsFrom [] s in
@@ -192,9 +196,9 @@ pub data Stage : Type 0 where
 abbrev pub inProgramRange : ℕ → ℕ → Bool
 inProgramRange n E = inRange n E && leb n 8 && leb E 256
 
--- the outcome of a fresh call on a table of the exact length
-abbrev pub begun : ℕ → ℕ → Outcome
-begun n E = freshOn (replicate (size n E) 0) n E
+-- the outcome of the fresh call on a table of the exact length
+abbrev pub freshOutcome : ℕ → ℕ → Outcome
+freshOutcome n E = freshOn (replicate (size n E) 0) n E
 
 -- the outcome of a later line: a call gets an answer area of the exact length; an unreadable line or second fresh gives 99
 abbrev pub ran : ℕ → List ℕ → Reading → Outcome
@@ -204,7 +208,7 @@ ran n t (call (line N)) = lineOn t (replicate (4 * n) 0) N
 ran n t (call (failed mask)) = failedOn t (replicate (4 * n + 8) 0) mask
 ran n t unreadable = outcome 99 t []
 
--- what a line gets: the bytes written, and where the program stands after it
+-- what one line gets: the bytes written, and where the program stands after it
 pub record Reply : Type 0 where
   pub text : List ℕ
   pub stage : Stage
@@ -212,27 +216,30 @@ pub record Reply : Type 0 where
 abbrev pub reply : List ℕ → Stage → Reply
 reply s g = record { text = s; stage = g }
 
--- a first fresh within the program's range
-abbrev pub began : ℕ → ℕ → Reply
-began n E = reply (answerLine n (begun n E)) (running n (begun n E .table))
+-- a first line that is a fresh within the program's range gets that outcome's line, and its table is the program's from then on
+abbrev pub freshReply : ℕ → ℕ → Reply
+freshReply n E = reply (answerLine n (freshOutcome n E)) (running n (freshOutcome n E .table))
 
--- the first line
+-- what the first line gets
 abbrev pub opened : Reading → Reply
-opened (call (fresh n E)) = cond (inProgramRange n E) (began n E) (reply (aloneLine 1) ended)
+opened (call (fresh n E)) = cond (inProgramRange n E) (freshReply n E) (reply (aloneLine 1) ended)
 opened (call (step p c)) = reply (aloneLine 99) ended
 opened (call (line N)) = reply (aloneLine 99) ended
 opened (call (failed mask)) = reply (aloneLine 99) ended
 opened unreadable = reply (aloneLine 99) ended
 
+-- what a line gets that is read at this stage
 abbrev pub replied : Stage → Reading → Reply
 replied waiting r = opened r
 replied (running n t) r = reply (answerLine n (ran n t r)) (running n (ran n t r .table))
 replied ended r = reply [] ended
 
+-- what the lines get, one after the other, from this stage on
 abbrev pub answers : Stage → List (List ℕ) → List ℕ
 answers g [] = []
 answers g (l ∷ ls) = replied g (readLine l) .text ++ answers (replied g (readLine l) .stage) ls
 
+-- what the program writes for an input
 unfoldable pub textOutput : List ℕ → List ℕ
 textOutput input = answers waiting (linesFrom [] input)
 

@@ -4,7 +4,7 @@ use mathlib.Core.List.{List, [], _∷_, _++_, append-assoc}
 use Prim.Native.Nat.{ℕ}
 use Rattle.text.specs.declared.Session.{Session}
 use Rattle.text.specs.Session.{owedBy}
-use Rattle.text.specs.Chunks.{Turn, Fed, chunks, outputs, Whole}
+use Rattle.text.specs.Chunks.{Turn, Fed, chunks, outputs, AnyChunks}
 
 fed-all : (s : Session) (line room : List ℕ) (ts : List Turn) (rest last : List ℕ) → Fed s line room ts rest last
     → outputs ts ++ last ≡ owedBy s line room (chunks ts ++ rest)
@@ -15,5 +15,5 @@ fed-all s line room (t ∷ ts) rest last h =
     ∙ sym (h .0 (chunks ts ++ rest))
     ∙ ap (owedBy s line room) (sym (append-assoc (t .chunk) (chunks ts) rest))
 
-pub whole : Whole
-whole s line room start ts rest last h = fed-all s line room ts rest last h ∙ start (chunks ts ++ rest)
+pub any-chunks : AnyChunks
+any-chunks s line room start ts rest last h = fed-all s line room ts rest last h ∙ start (chunks ts ++ rest)

@@ -1,2 +1,3 @@
-pub mod Laws
+pub mod Replies
+pub mod Sessions
 pub mod Chunks

@@ -22,6 +22,7 @@ Fed s line room (t ∷ ts) rest last =
     ((x : List ℕ) → owedBy s line room (t .chunk ++ x) ≡ t .written ++ owedBy (t .session) (t .line) (t .room) x)
     × Fed (t .session) (t .line) (t .room) ts rest last
 
+-- the chunks joined, and what was written for them joined
 abbrev pub chunks : List Turn → List ℕ
 chunks [] = []
 chunks (t ∷ ts) = t .chunk ++ chunks ts
@@ -30,8 +31,9 @@ abbrev pub outputs : List Turn → List ℕ
 outputs [] = []
 outputs (t ∷ ts) = t .written ++ outputs ts
 
--- for a session that starts as `start` has it
-abbrev pub Whole : Type 0
-Whole =
+-- For a session that owes what `start` promises: whatever chunks the input comes in, the outputs and `last` joined are what document 01
+-- has for the whole input.
+abbrev pub AnyChunks : Type 0
+AnyChunks =
     (s : Session) (line room : List ℕ) → ((x : List ℕ) → owedBy s line room x ≡ textOutput x) → (ts : List Turn) (rest last : List ℕ)
     → Fed s line room ts rest last → outputs ts ++ last ≡ textOutput (chunks ts ++ rest)

@@ -3,15 +3,22 @@
 // A session is fed the input chunk by chunk, cut anywhere. What it has written and what it still owes make up `textOutput` of the whole.
 ghost use mathlib.Core.Path.{_≡_};
 ghost use mathlib.Core.Bool.{true, _&&_};
-ghost use mathlib.Core.List.{List, [], _∷_, _++_};
+ghost use mathlib.Core.List.{List, [], _∷_};
 ghost use Prim.Native.Nat.{ℕ, _+_, _*_, _≤_};
 ghost use lib.Dec.{eqb};
 ghost use lib.ListN.{length, take};
-ghost use Rattle.rules.specs.Text.{aloneLine, inProgramRange, endsInCR, began, opened, running, replied, readLine, textOutput};
+ghost use Rattle.rules.specs.Text.{aloneLine, inProgramRange, endsInCR, freshReply, opened, running, replied, readLine, textOutput};
 ghost use Rattle.decimal.specs.Appended.{Appended};
+ghost use Rattle.answers.specs.Shows.{answerRoom};
 ghost use Rattle.reading.specs.Meanings.{readingOf};
-ghost use Rattle.text.specs.Session.{Fits, Replies, Ready, Took, stageOf, isEnded, owedBy};
+ghost use Rattle.text.specs.Session.{tableRoom, lineRoom, Fits, Replies, Ready, Took, TookChunk, stageOf, isEnded, owedBy};
 use reading::Call;
+
+// The bytes of the largest table that the program takes, of 8 processes with 256 records each.
+pub const TABLE_ROOM: usize = 8 + 12 * 8 * (256 + 1);
+
+// The bytes that are held of a line, at most.
+pub const LINE_ROOM: usize = 66;
 
 // Where the program stands: before its first line, with a table of n processes in the first bytes of its room, or at its end.
 pub enum Stage {
@@ -38,8 +45,8 @@ struct Reply {
 
 // The first line was no fresh that the program takes: it writes the one field v.
 fn stop(out: &mut [u8], at: usize, v: u32) -> Reply
-    requires { ⌜ at + 128 ≤ length (now out) ⌝ }
-    ensures { λ r. ⌜ Appended (now (out .entry)) at (now (out .exit)) (r .written) (aloneLine v) × (r .stage ≡ Stage.Ended) × (r .written ≤ at + 128) ⌝ }
+    requires { ⌜ at + answerRoom ≤ length (now out) ⌝ }
+    ensures { λ r. ⌜ Appended (now (out .entry)) at (now (out .exit)) (r .written) (aloneLine v) × (r .stage ≡ Stage.Ended) × (r .written ≤ at + answerRoom) ⌝ }
 {
     let written = answers::put_alone(out, at, v);
     Reply {
@@ -48,16 +55,17 @@ fn stop(out: &mut [u8], at: usize, v: u32) -> Reply
     }
 }
 
+// Whether the program takes these dimensions.
 fn in_program_range(n: u32, e: u32) -> bool
     ensures { λ r. ⌜ r ≡ inProgramRange n e ⌝ }
 {
     shape::in_range(n as usize, e as usize) & (n <= 8) & (e <= 256)
 }
 
-// A fresh table in the room.
+// Answers a first line that is a fresh in the program's range: a fresh table in the room.
 fn begin(n: u32, e: u32, room: &mut [u8], out: &mut [u8], at: usize) -> Reply
-    requires { ⌜ (inProgramRange n e ≡ true) × (length (now room) ≡ 24680) × (at + 128 ≤ length (now out)) ⌝ }
-    ensures { λ r. ⌜ Replies (began n e) r (now (out .entry)) at (now (out .exit)) (now (room .exit)) ⌝ }
+    requires { ⌜ (inProgramRange n e ≡ true) × (length (now room) ≡ tableRoom) × (at + answerRoom ≤ length (now out)) ⌝ }
+    ensures { λ r. ⌜ Replies (freshReply n e) r (now (out .entry)) at (now (out .exit)) (now (room .exit)) ⌝ }
 {
     let m = n as usize;
     let size = shape::table_size(m, e as usize);
@@ -70,9 +78,9 @@ fn begin(n: u32, e: u32, room: &mut [u8], out: &mut [u8], at: usize) -> Reply
     }
 }
 
-// The first line.
+// Answers the first line.
 fn open(call: Call, room: &mut [u8], out: &mut [u8], at: usize) -> Reply
-    requires { ⌜ (length (now room) ≡ 24680) × (at + 128 ≤ length (now out)) ⌝ }
+    requires { ⌜ (length (now room) ≡ tableRoom) × (at + answerRoom ≤ length (now out)) ⌝ }
     ensures { λ r. ⌜ Replies (opened (readingOf call)) r (now (out .entry)) at (now (out .exit)) (now (room .exit)) ⌝ }
 {
     let Call::Fresh { n, e } = call else {
@@ -84,12 +92,12 @@ fn open(call: Call, room: &mut [u8], out: &mut [u8], at: usize) -> Reply
     stop(out, at, 1)
 }
 
-// A later line.
+// Answers a later line.
 fn answer(call: Call, n: usize, size: usize, room: &mut [u8], out: &mut [u8], at: usize) -> Reply
-    requires { ⌜ (length (now room) ≡ 24680) × (n ≤ 8) × (size ≤ 24680) × (at + 128 ≤ length (now out)) ⌝ }
+    requires { ⌜ (length (now room) ≡ tableRoom) × (n ≤ 8) × (size ≤ tableRoom) × (at + answerRoom ≤ length (now out)) ⌝ }
     ensures { λ r. ⌜ Replies (replied (running n (take size (now (room .entry)))) (readingOf call)) r (now (out .entry)) at (now (out .exit)) (now (room .exit)) ⌝ }
 {
-    let mut area = [0u8; 40];
+    let mut area = [0u8; answers::AREA_ROOM];
     let r = answers::run(call, n, &mut room[..size], &mut area);
     let written = answers::put_answer(out, at, n, r, &area);
     Reply {
@@ -98,8 +106,9 @@ fn answer(call: Call, n: usize, size: usize, room: &mut [u8], out: &mut [u8], at
     }
 }
 
+// Answers a line, by where the program stands.
 fn answer_line(stage: Stage, line: &[u8], room: &mut [u8], out: &mut [u8], at: usize) -> Reply
-    requires { ⌜ Fits stage (now room) × (at + 128 ≤ length (now out)) ⌝ }
+    requires { ⌜ Fits stage (now room) × (at + answerRoom ≤ length (now out)) ⌝ }
     ensures { λ r. ⌜ Replies (replied (stageOf stage (now (room .entry))) (readLine (now (line .entry)))) r (now (out .entry)) at (now (out .exit)) (now (room .exit)) ⌝ }
 {
     let call = reading::read_line(line);
@@ -117,7 +126,7 @@ fn answer_line(stage: Stage, line: &[u8], room: &mut [u8], out: &mut [u8], at: u
 
 // Whether b ends the line of which `held` bytes are held: only CR LF does.
 fn ends(line: &[u8], held: usize, b: u8) -> bool
-    requires { ⌜ (held ≤ 66) × (length (now line) ≡ 66) ⌝ }
+    requires { ⌜ (held ≤ lineRoom) × (length (now line) ≡ lineRoom) ⌝ }
     ensures { λ r. ⌜ r ≡ (eqb b 10 && endsInCR (take held (now (line .entry)))) ⌝ }
 {
     if held == 0 {
@@ -126,9 +135,9 @@ fn ends(line: &[u8], held: usize, b: u8) -> bool
     (b == 10) & (line[held - 1] == 13)
 }
 
-// One byte.
+// Takes one byte of the input. It ends the line, which is then answered, or it is held.
 fn take_byte(s: Session, line: &mut [u8], room: &mut [u8], b: u8, out: &mut [u8]) -> Session
-    requires { ⌜ Ready s (now line) (now room) × (s .written + 128 ≤ length (now out)) ⌝ }
+    requires { ⌜ Ready s (now line) (now room) × (s .written + answerRoom ≤ length (now out)) ⌝ }
     ensures { λ r. ⌜ Took s (now (line .entry)) (now (room .entry)) (now (out .entry)) (b ∷ []) r (now (line .exit)) (now (room .exit)) (now (out .exit)) ⌝ }
 {
     let held = s.held;
@@ -144,7 +153,7 @@ fn take_byte(s: Session, line: &mut [u8], room: &mut [u8], b: u8, out: &mut [u8]
             written: r.written,
         };
     }
-    if held < 66 {
+    if held < LINE_ROOM {
         line[held] = b;
         return Session {
             held: held + 1,
@@ -152,10 +161,11 @@ fn take_byte(s: Session, line: &mut [u8], room: &mut [u8], b: u8, out: &mut [u8]
             written: written,
         };
     }
-    line[65] = b;
+    line[LINE_ROOM - 1] = b;
     s
 }
 
+// A session that has read nothing.
 pub fn start() -> Session
     ensures { λ r. ⌜ (r .held ≡ 0) × (r .stage ≡ Stage.Waiting) × ((line : List ℕ) → (room : List ℕ) → (x : List ℕ) → owedBy r line room x ≡ textOutput x) ⌝ }
 {
@@ -166,10 +176,10 @@ pub fn start() -> Session
     }
 }
 
-// The next bytes of the input. `out` has room for an answer to every byte.
+// Takes the next bytes of the input. `out` has room for an answer to every byte.
 pub fn feed(s: Session, line: &mut [u8], room: &mut [u8], chunk: &[u8], out: &mut [u8]) -> Session
-    requires { ⌜ Ready s (now line) (now room) × (128 * length (now chunk) ≤ length (now out)) ⌝ }
-    ensures { λ r. ⌜ Ready r (now (line .exit)) (now (room .exit)) × (r .written ≤ length (now (out .exit))) × ((x : List ℕ) → owedBy s (now (line .entry)) (now (room .entry)) ((now (chunk .entry)) ++ x) ≡ take (r .written) (now (out .exit)) ++ owedBy r (now (line .exit)) (now (room .exit)) x) ⌝ }
+    requires { ⌜ Ready s (now line) (now room) × (answerRoom * length (now chunk) ≤ length (now out)) ⌝ }
+    ensures { λ r. ⌜ TookChunk s (now (line .entry)) (now (room .entry)) (now (chunk .entry)) r (now (line .exit)) (now (room .exit)) (now (out .exit)) ⌝ }
 {
     let mut c = s;
     c.written = 0;
@@ -181,9 +191,9 @@ pub fn feed(s: Session, line: &mut [u8], room: &mut [u8], chunk: &[u8], out: &mu
     c
 }
 
-// The end of the input, where a last line may lack its CR LF. Answers how many bytes are written.
+// Answers a last line that lacks its CR LF, if there is one, and says how many bytes are written.
 pub fn finish(s: Session, line: &[u8], room: &mut [u8], out: &mut [u8]) -> usize
-    requires { ⌜ Ready s (now line) (now room) × (128 ≤ length (now out)) ⌝ }
+    requires { ⌜ Ready s (now line) (now room) × (answerRoom ≤ length (now out)) ⌝ }
     ensures { λ r. ⌜ (r ≤ length (now (out .exit))) × (take r (now (out .exit)) ≡ owedBy s (now (line .entry)) (now (room .entry)) []) ⌝ }
 {
     let held = s.held;

@@ -1,7 +1,7 @@
 use native.Mathlib.Omega.{arith}
 use lib.ListN.{length-set}
 use borrow.Author.Needs.{needs}
-use Rattle.answers.proofs.Laws.{two-bytes}
+use Rattle.answers.proofs.Fields.{two-bytes}
 use Rattle.answers.proofs.put_end.Statement.{statement}
 use Rattle.answers.proofs.put_end.Tie as tie
 

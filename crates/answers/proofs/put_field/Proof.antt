@@ -6,7 +6,7 @@ use lib.ListN.{length-set}
 use borrow.Author.Needs.{needs}
 use Rattle.decimal.proofs.Texts.{appended-byte, appended-both, appended-as}
 use Rattle.rules.specs.Text.{decimal}
-use Rattle.answers.proofs.Laws.{field-word, field-empty}
+use Rattle.answers.proofs.Fields.{field-word, field-empty}
 use Rattle.answers.proofs.put_field.Statement.{statement}
 use Rattle.answers.proofs.put_field.Tie as tie
 

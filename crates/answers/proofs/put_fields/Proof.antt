@@ -1,7 +1,7 @@
 use Prim.Native.Nat.{_-_}
 use native.Mathlib.Omega.{arith}
 use borrow.Author.Needs.{needs}
-use Rattle.answers.proofs.Laws.{Written, written-starts, written-on, written-all}
+use Rattle.answers.proofs.Fields.{Written, written-starts, written-on, written-all}
 use Rattle.answers.specs.Shows.{shown}
 use Rattle.answers.proofs.put_fields.Statement.{statement}
 use Rattle.answers.proofs.put_fields.Tie as tie
@@ -18,7 +18,7 @@ loop-holds c = written-starts (c .before .before .args .out .now) (c .before .be
 put-field-requires : tie.Need-put-field-requires Inv-loop μ-loop
 put-field-requires c κs =
     let c5 = c .before .before .before .before .before in (
-      omega (arith, c .before .before .loop .inv .3, c .before .before .loop .inv .1, c .before .loop-test .taken, c5 .pre .0, c5 .pre .1),
+      omega (arith, c .before .before .loop .inv .2, c .before .before .loop .inv .1 .room, c .before .loop-test .taken, c5 .pre .0, c5 .pre .1),
       c5 .pre .2,
     )
 
@@ -40,7 +40,7 @@ loop-again c =
     (c5 .loop .inv) (c4 .loop-test .taken) (c8 .pre .2) (c .before .before .put-field .ensures)
 
 same-length : tie.Need-same-length Inv-loop μ-loop
-same-length c = c .before .loop .inv .1
+same-length c = c .before .loop .inv .1 .room
 
 returns : tie.Need-returns Inv-loop μ-loop
 returns c =

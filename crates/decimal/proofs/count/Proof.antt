@@ -2,7 +2,7 @@ use Prim.Native.Nat.{_-_}
 use native.Mathlib.Nat.{not-suc-le-zero, le-of-suc-le-suc}
 use native.Mathlib.Omega.{arith}
 use borrow.Author.Needs.{needs}
-use Rattle.decimal.proofs.Laws.{AtLeast, counted-on, counted, counted-ten}
+use Rattle.decimal.proofs.Digits.{AtLeast, counted-on, counted, counted-ten}
 use Rattle.decimal.proofs.count.Statement.{statement}
 use Rattle.decimal.proofs.count.Tie as tie
 

@@ -1,7 +1,7 @@
 use mathlib.Core.Path.{ap}
 use Prim.Native.Nat.{ℕ, _+_, _/_, _%_}
 use borrow.Author.Needs.{needs}
-use Rattle.decimal.proofs.Laws.{power-some}
+use Rattle.decimal.proofs.Powers.{power-some}
 use Rattle.decimal.proofs.digit.Statement.{statement}
 use Rattle.decimal.proofs.digit.Tie as tie
 

@@ -1,5 +1,5 @@
 use borrow.Author.Needs.{needs}
-use Rattle.decimal.proofs.Laws.{power-at}
+use Rattle.decimal.proofs.Powers.{power-at}
 use Rattle.decimal.proofs.power.Statement.{statement}
 use Rattle.decimal.proofs.power.Tie as tie
 

@@ -1,7 +1,7 @@
 use mathlib.Core.Path.{refl, _∙_, sym}
 use lib.Seq.{length-take-le}
 use borrow.Author.Needs.{needs}
-use Rattle.program.proofs.Laws.{stopped, goes-on}
+use Rattle.program.proofs.Turns.{stopped, goes-on}
 use Rattle.program.proofs.take_turn.Statement.{statement}
 use Rattle.program.proofs.take_turn.Tie as tie
 
@@ -58,7 +58,7 @@ slice-aggregate-write-all : tie.Need-slice-aggregate-write-all
 slice-aggregate-write-all c =
     let c7 = c .before .before .before .before .before .before .before in
     let c7 = c7 in
-    sym (length-take-le (c7 .feed .result .written) (c7 .feed .last .1 .1 .1 .1 .0) (c7 .feed .ensures .1))
+    sym (length-take-le (c7 .feed .result .written) (c7 .feed .last .1 .1 .1 .1 .0) (c7 .feed .ensures .within))
 
 write-all-requires : tie.Need-write-all-requires
 write-all-requires c κs = search needs
@@ -79,7 +79,7 @@ returns-3 : tie.Need-returns-3
 returns-3 c =
     let c4 = c .before .before .before .before in
     let c9 = c4 .before .before .before .before .before in
-    (c9 .feed .ensures .0, c4 .out2 .given, goes-on (c .before .write-all .result) (c .ended .result) (c .ended .ensures .0))
+    (c9 .feed .ensures .ready, c4 .out2 .given, goes-on (c .before .write-all .result) (c .ended .result) (c .ended .ensures .0))
 
 pub take-turn-spec : {M : Type 1} → statement M
 take-turn-spec =

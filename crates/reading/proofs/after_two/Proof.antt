@@ -1,7 +1,7 @@
 use mathlib.Core.Path.{_∙_, refl}
 use borrow.Author.Needs.{needs}
 use Rattle.rules.specs.Text.{number, other, asked, wordOf}
-use Rattle.reading.proofs.Laws.{told, none-takes}
+use Rattle.reading.proofs.Lines.{told, none-takes}
 use Rattle.reading.proofs.after_two.Statement.{statement}
 use Rattle.reading.proofs.after_two.Tie as tie
 

@@ -2,7 +2,7 @@ use Prim.Native.Nat.{_-_}
 use native.Mathlib.Omega.{arith}
 use lib.ListN.{length}
 use borrow.Author.Needs.{needs}
-use Rattle.reading.proofs.Laws.{NoComma, no-comma-starts, no-comma-on, comma-found, line-found}
+use Rattle.reading.proofs.Lines.{NoComma, no-comma-starts, no-comma-on, comma-found, line-found}
 use Rattle.reading.proofs.end.Statement.{statement}
 use Rattle.reading.proofs.end.Tie as tie
 

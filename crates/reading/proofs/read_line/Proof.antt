@@ -3,7 +3,7 @@ use lib.ListN.{take}
 use lib.Seq.{length-take-le}
 use borrow.Author.Needs.{needs}
 use Rattle.rules.specs.Text.{wordOf}
-use Rattle.reading.proofs.Laws.{long-line, one-field, two-fields, three-fields, five-fields, four-fields, read-as}
+use Rattle.reading.proofs.Lines.{long-line, one-field, two-fields, three-fields, five-fields, four-fields, read-as}
 use Rattle.reading.proofs.read_line.Statement.{statement}
 use Rattle.reading.proofs.read_line.Tie as tie
 

@@ -3,7 +3,7 @@ use Prim.Native.Nat.{_-_}
 use native.Mathlib.Omega.{arith}
 use lib.ListN.{length}
 use borrow.Author.Needs.{needs}
-use Rattle.reading.proofs.Laws.{Matched, matched-on, matched-not, matched-all, same-length}
+use Rattle.reading.proofs.Lines.{Matched, matched-on, matched-not, matched-all, same-length}
 use Rattle.reading.proofs.same.Statement.{statement}
 use Rattle.reading.proofs.same.Tie as tie
 

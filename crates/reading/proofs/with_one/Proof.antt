@@ -1,5 +1,5 @@
 use borrow.Author.Needs.{needs}
-use Rattle.reading.proofs.Laws.{named, none-of-one}
+use Rattle.reading.proofs.Lines.{named, none-of-one}
 use Rattle.reading.proofs.with_one.Statement.{statement}
 use Rattle.reading.proofs.with_one.Tie as tie
 

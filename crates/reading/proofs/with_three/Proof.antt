@@ -1,5 +1,5 @@
 use borrow.Author.Needs.{needs}
-use Rattle.reading.proofs.Laws.{named, none-of-three}
+use Rattle.reading.proofs.Lines.{named, none-of-three}
 use Rattle.reading.proofs.with_three.Statement.{statement}
 use Rattle.reading.proofs.with_three.Tie as tie
 

@@ -1,5 +1,5 @@
 use borrow.Author.Needs.{needs}
-use Rattle.reading.proofs.Laws.{named, none-of-two}
+use Rattle.reading.proofs.Lines.{named, none-of-two}
 use Rattle.reading.proofs.with_two.Statement.{statement}
 use Rattle.reading.proofs.with_two.Tie as tie
 

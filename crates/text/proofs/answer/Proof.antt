@@ -5,7 +5,7 @@ use lib.Seq.{length-take-le}
 use borrow.Author.Needs.{needs}
 use Rattle.reading.specs.Meanings.{readingOf}
 use Rattle.rules.specs.Text.{ran}
-use Rattle.text.proofs.Laws.{call-line, replies-answer}
+use Rattle.text.proofs.Replies.{call-line, replies-answer}
 use Rattle.text.proofs.answer.Statement.{statement}
 use Rattle.text.proofs.answer.Tie as tie
 

@@ -1,5 +1,5 @@
 use borrow.Author.Needs.{needs}
-use Rattle.text.proofs.Laws.{replied-as, replies-as, replies-ended, running-fits}
+use Rattle.text.proofs.Replies.{replied-as, replies-as, replies-ended, running-fits}
 use Rattle.text.proofs.answer_line.Statement.{statement}
 use Rattle.text.proofs.answer_line.Tie as tie
 

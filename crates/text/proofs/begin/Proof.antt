@@ -3,9 +3,9 @@ use mathlib.Core.Path.{refl, _∙_, sym}
 use native.Mathlib.Omega.{arith}
 use lib.Seq.{length-take-le}
 use borrow.Author.Needs.{needs}
-use Rattle.answers.proofs.Laws.{shows-none}
-use Rattle.rules.specs.Text.{begun}
-use Rattle.text.proofs.Laws.{in-range, room-enough, fresh-begun, call-line, replies-answer}
+use Rattle.answers.proofs.Calls.{shows-none}
+use Rattle.rules.specs.Text.{freshOutcome}
+use Rattle.text.proofs.Replies.{in-range, room-enough, fresh-outcome, call-line, replies-answer}
 use Rattle.text.proofs.begin.Statement.{statement}
 use Rattle.text.proofs.begin.Tie as tie
 
@@ -63,10 +63,10 @@ returns c =
     let a = c13 .args in
     let enough = room-enough (a .n) (a .e) (c13 .pre .0) (c10 .table-size .ensures) in
     let lent = length-take-le (c10 .table-size .result) (a .room .now) (omega (arith, enough, c13 .pre .1)) in
-    let m = c8 .ckpt-fresh .ensures ∙ fresh-begun _ (a .n) (a .e) (c13 .pre .0) (lent ∙ c10 .table-size .ensures) in
+    let m = c8 .ckpt-fresh .ensures ∙ fresh-outcome _ (a .n) (a .e) (c13 .pre .0) (lent ∙ c10 .table-size .ensures) in
     let s = shows-none _ _ (0 ∷ 0 ∷ 0 ∷ 0 ∷ []) (c4 .told .result) m (c4 .told .ensures) in
-    replies-answer (a .n) (c10 .table-size .result) (begun (a .n) (a .e)) _ (a .room .now)
-    (call-line (a .n) (begun (a .n) (a .e)) (c4 .told .result) _ _ s (c .before .before .put-answer .ensures))
+    replies-answer (a .n) (c10 .table-size .result) (freshOutcome (a .n) (a .e)) _ (a .room .now)
+    (call-line (a .n) (freshOutcome (a .n) (a .e)) (c4 .told .result) _ _ s (c .before .before .put-answer .ensures))
     (c7 .room .given .0) (c7 .room .given .1) (c13 .pre .1) enough (in-range (a .n) (a .e) (c13 .pre .0) .1) (s .left)
 
 pub begin-spec : {M : Type 1} → statement M

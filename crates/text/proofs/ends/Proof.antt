@@ -1,5 +1,5 @@
 use borrow.Author.Needs.{needs}
-use Rattle.text.proofs.Laws.{ends-some, ends-none}
+use Rattle.text.proofs.Sessions.{ends-some, ends-none}
 use Rattle.text.proofs.ends.Statement.{statement}
 use Rattle.text.proofs.ends.Tie as tie
 

@@ -2,7 +2,7 @@ use mathlib.Core.Path.{sym}
 use native.Mathlib.Omega.{arith}
 use lib.Seq.{length-take-le}
 use borrow.Author.Needs.{needs}
-use Rattle.text.proofs.Laws.{owes-none, owes-line}
+use Rattle.text.proofs.Sessions.{owes-none, owes-line}
 use Rattle.text.proofs.finish.Statement.{statement}
 use Rattle.text.proofs.finish.Tie as tie
 

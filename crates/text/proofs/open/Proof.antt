@@ -1,6 +1,6 @@
 use mathlib.Core.Path.{_∙_, sym}
 use borrow.Author.Needs.{needs}
-use Rattle.text.proofs.Laws.{no-fresh, opened-as, replies-stop, replies-as}
+use Rattle.text.proofs.Replies.{no-fresh, opened-as, replies-stop, replies-as}
 use Rattle.text.proofs.open.Statement.{statement}
 use Rattle.text.proofs.open.Tie as tie
 

@@ -3,7 +3,7 @@ use Prim.Native.Nat.{_-_}
 use native.Mathlib.Omega.{arith}
 use lib.Seq.{length-take-le}
 use borrow.Author.Needs.{needs}
-use Rattle.text.proofs.Laws.{held-some, took-line, took-byte, took-last}
+use Rattle.text.proofs.Sessions.{held-some, took-line, took-byte, took-last}
 use Rattle.text.proofs.take_byte.Statement.{statement}
 use Rattle.text.proofs.take_byte.Tie as tie
 
@@ -63,6 +63,9 @@ returns-2 c =
     took-byte (a .s) (a .line .now) (a .room .now) (a .out .now) _ (c7 .pre .0) (c .before .before .ends .ensures)
     (c .before .if1 .left) (c .if2 .taken)
 
+sub-line : tie.Need-sub-line
+sub-line c = search needs
+
 slice-write-line-2 : tie.Need-slice-write-line-2
 slice-write-line-2 c = search needs
 
@@ -93,6 +96,7 @@ take-byte-spec =
     add-t23
     same-length-4
     returns-2
+    sub-line
     slice-write-line-2
     same-length-5
     returns-3)

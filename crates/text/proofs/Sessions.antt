@@ -1,152 +1,33 @@
--- A line answered, and a line that is held.
+-- What a session owes, byte by byte: the line that is held, chunks, the end of the input.
 use mathlib.Core.Path.{_≡_, refl, _∙_, sym, ap, subst}
-use mathlib.Core.Logic.{inl, inr}
-use mathlib.Core.Bool.{Bool, true, false, not, cond, _&&_, and-eq-true-iff, false≢true, and-false}
+use mathlib.Core.Bool.{Bool, true, false, cond, _&&_, false≢true, and-false}
 use mathlib.Core.List.{List, [], _∷_, _++_, append-assoc, append-nil}
 use Prim.Native.Nat.{ℕ, zero, suc, _+_, _-_, _*_, _≤_, _<_}
 use native.Mathlib.Omega.{arith}
 use native.Mathlib.Numerals.{add-one}
-use native.Mathlib.Nat.{not-suc-le-zero, mul-le-mul, suc-ne-zero}
-use lib.Dec.{leb, eqb}
-use lib.ListN.{length, getD, set, take, drop, replicate, length-append, length-replicate, length-set}
-use lib.Seq.{take-at, take-take, take-suc, take-suc-set, take-all, length-take-le, getD-take, getD-at}
-use types.Run.{OneOf}
-use denote.Enum.Declared.{tagOf}
-use borrow.Author.Tests.{leb-true, lt-leb}
-use Rattle.xdr.specs.Words.{putWords}
-use Rattle.rules.specs.Table.{inRange, size, fresh}
-use Rattle.rules.specs.Calls.{Outcome, outcome, freshOn}
+use native.Mathlib.Nat.{not-suc-le-zero}
+use lib.Dec.{eqb}
+use lib.ListN.{length, getD, set, take, length-append, length-set}
+use lib.Seq.{take-take, take-suc, take-suc-set, take-all, length-take-le, getD-take, getD-at}
+use borrow.Author.Tests.{lt-leb}
 use Rattle.rules.specs.Text as text
-use Rattle.layout.proofs.Laws.{fresh-done}
-use Rattle.reading.specs.declared.Call.{Call}
-use Rattle.reading.specs.declared.Call.the-variants.{Fresh, Checkpoint, Send, Receipt, Line, Failed, Unreadable}
-use Rattle.reading.proofs.Call.{the-type}
-use Rattle.reading.specs.Meanings.{readingOf}
+use Rattle.answers.specs.Shows.{answerRoom}
 use Rattle.reading.proofs.Tests.{picks, skips}
-use Rattle.decimal.specs.Appended.{Appended}
-use Rattle.decimal.proofs.Texts.{appended-none, appended-as}
-use Rattle.answers.specs.declared.Ran.{Ran}
-use Rattle.answers.specs.Shows.{Shows, shown}
 use Rattle.text.specs.declared.Stage.{Stage}
-use Rattle.text.specs.declared.Stage.the-variants.{Running, Ended}
+use Rattle.text.specs.declared.Stage.the-variants.{Ended}
 use Rattle.text.specs.declared.Session.{Session}
 use Rattle.text.specs.declared.Reply.{Reply}
-use Rattle.text.specs.Session.{stageOf, Within, Fits, Replies, owedBy, Ready, Took}
-
--- ---- a table in its room
-
--- the program's range, and the length of a table in it
-pub in-range : (n e : ℕ) → text.inProgramRange n e ≡ true → (inRange n e ≡ true) × (n ≤ 8) × (e ≤ 256)
-in-range n e h =
-    let all = and-eq-true-iff (inRange n e && leb n 8) (leb e 256) .0 h in
-    let two = and-eq-true-iff (inRange n e) (leb n 8) .0 (all .0) in
-    (two .0, leb-true n 8 (two .1), leb-true e 256 (all .1))
-
-pub room-enough : (n e : ℕ) {s : ℕ} → text.inProgramRange n e ≡ true → s ≡ size n e → s ≤ 24680
-room-enough n e h eq =
-    let r = in-range n e h in
-    let a : 12 * n ≤ 96 = omega (arith, r .1) in
-    let b : e + 1 ≤ 257 = omega (arith, r .2) in
-    let most : 12 * n * (e + 1) ≤ 96 * 257 = mul-le-mul a b in
-    omega (arith, eq, most)
-
--- a fresh call on a table of the exact length, whatever its bytes
-pub fresh-begun : (t : List ℕ) (n e : ℕ) → text.inProgramRange n e ≡ true → length t ≡ size n e → freshOn t n e ≡ text.begun n e
-fresh-begun t n e h l =
-    let r = in-range n e h .0 in
-    let zeros : List ℕ = replicate (size n e) 0 in
-    let z : length zeros ≡ size n e = length-replicate {A = ℕ} (size n e) 0 in
-    sym (fresh-done t n e r l refl refl)
-    ∙ ap (λ (m : ℕ). outcome 0 (putWords (replicate m 0) 0 (n ∷ e ∷ [])) []) (l ∙ sym z)
-    ∙ fresh-done zeros n e r z refl refl
-
--- a table that was lent from the room is back in it
-pub room-back : (n m : ℕ) (t room : List ℕ) {u : List ℕ} → length t ≡ length (take m room) → m ≤ length room → t ≡ u
-    → stageOf (Running n m) (t ++ drop m room) ≡ text.running n u
-room-back n m t room e le h = ap (text.running n) (take-at t (drop m room) m (e ∙ length-take-le m room le) ∙ h)
-
--- ---- replies
-
-pub replies-as : {want want′ : text.Reply} {r : Reply} {before out room : List ℕ} {at : ℕ} → want ≡ want′ → Replies want r before at out room
-    → Replies want′ r before at out room
-replies-as {want} {want′} {r} {before} {out} {room} {at} e h = subst (λ (w : text.Reply). Replies w r before at out room) e h
-
--- an answer in place
-pub replies-answer : (n m : ℕ) (o : Outcome) (t : List ℕ) {before out : List ℕ} {at x : ℕ} (room : List ℕ)
-    → Appended before at out x (text.answerLine n o) × (x ≤ at + 128) → length t ≡ length (take m room) → length (t ++ drop m room) ≡ length room
-    → length room ≡ 24680 → m ≤ 24680 → n ≤ 8 → t ≡ o .table
-    → Replies (text.reply (text.answerLine n o) (text.running n (o .table))) (record { stage = Running n m; written = x }) before at out (t ++ drop m room)
-replies-answer n m o t room put lent back len le eight e =
-    record {
-      text = put .0;
-      stage = room-back n m t room lent (omega (arith, le, len)) e;
-      fits = (back ∙ len, (eight, le));
-      most = put .1;
-    }
-
-pub call-line : (n : ℕ) (o : Outcome) (res : Ran) (t area : List ℕ) {before out : List ℕ} {at x : ℕ} → Shows o res t area
-    → Appended before at out x (text.decimal (res .returned) ++ text.furtherFields (n + 2) (shown (res .count) area) ++ text.lineEnd) × (x ≤ at + 128)
-    → Appended before at out x (text.answerLine n o) × (x ≤ at + 128)
-call-line n o res t area h put = (
-  appended-as
-      (ap (λ (r : ℕ). text.decimal r ++ text.furtherFields (n + 2) (shown (res .count) area) ++ text.lineEnd) (h .number)
-      ∙ ap (λ (ws : List ℕ). text.decimal (o .returned) ++ text.furtherFields (n + 2) ws ++ text.lineEnd) (h .words))
-      (put .0),
-  put .1,
-)
-
--- the program ends with the one field v
-pub replies-stop : (v : ℕ) (r : Reply) {want : text.Reply} {before out : List ℕ} {at : ℕ} (room : List ℕ)
-    → Appended before at out (r .written) (text.aloneLine v) × (r .stage ≡ Ended) × (r .written ≤ at + 128) → length room ≡ 24680
-    → text.reply (text.aloneLine v) text.ended ≡ want → Replies want r before at out room
-replies-stop v r {want} {before} {out} {at} room put len e =
-    replies-as e
-    (record {
-      text = put .0;
-      stage = ap (λ (g : Stage). stageOf g room) (put .1);
-      fits = (len, subst Within (sym (put .1)) tt);
-      most = put .2;
-    })
-
-none-is : OneOf (1 ∷ 2 ∷ 3 ∷ 4 ∷ 5 ∷ 6 ∷ []) 0 → ⊥
-none-is (inl e) = suc-ne-zero _ (sym e)
-none-is (inr (inl e)) = suc-ne-zero _ (sym e)
-none-is (inr (inr (inl e))) = suc-ne-zero _ (sym e)
-none-is (inr (inr (inr (inl e)))) = suc-ne-zero _ (sym e)
-none-is (inr (inr (inr (inr (inl e))))) = suc-ne-zero _ (sym e)
-none-is (inr (inr (inr (inr (inr e))))) = suc-ne-zero _ (sym e)
-
--- a first line that is no fresh
-pub no-fresh : (x : Call) → OneOf (1 ∷ 2 ∷ 3 ∷ 4 ∷ 5 ∷ 6 ∷ []) (tagOf the-type x)
-    → text.reply (text.aloneLine 99) text.ended ≡ text.opened (readingOf x)
-no-fresh (Fresh n e) k = absurd (none-is k)
-no-fresh (Checkpoint p) k = refl
-no-fresh (Send p q) k = refl
-no-fresh (Receipt p q m) k = refl
-no-fresh (Line n) k = refl
-no-fresh (Failed m) k = refl
-no-fresh Unreadable k = refl
-
-pub opened-as : {x : Call} {n e : ℕ} {b : Bool} → x ≡ Fresh n e → text.inProgramRange n e ≡ b
-    → cond b (text.began n e) (text.reply (text.aloneLine 1) text.ended) ≡ text.opened (readingOf x)
-opened-as {x} {n} {e} {b} h k =
-    ap (λ (c : Bool). cond c (text.began n e) (text.reply (text.aloneLine 1) text.ended)) (sym k) ∙ ap (λ (y : Call). text.opened (readingOf y)) (sym h)
-
--- the reply to a line, at a stage that is known
-pub replied-as : {g g′ : Stage} {x y : text.Reading} (room : List ℕ) → g ≡ g′ → x ≡ y
-    → text.replied (stageOf g′ room) x ≡ text.replied (stageOf g room) y
-replied-as {g} {g′} {x} {y} room e f =
-    ap (λ (h : Stage). text.replied (stageOf h room) x) (sym e) ∙ ap (text.replied (stageOf g room)) f
+use Rattle.text.specs.Session.{lineRoom, stageOf, Replies, owedBy, Ready, Took, TookChunk}
 
 -- ---- a line that is held
 
--- what endsInCR looks at
+-- the byte that `endsInCR` looks at
 ends-at : (line : List ℕ) (held : ℕ) → held ≤ length line → 0 < held → text.endsInCR (take held line) ≡ eqb (getD line (held - 1) 0) 13
 ends-at line held le pos =
     ap (λ (m : ℕ). eqb (getD (take held line) (m - 1) 0) 13) (length-take-le held line le)
     ∙ ap (λ (b : ℕ). eqb b 13) (getD-take held line (held - 1) 0 (omega (arith, pos)))
 
-pub ends-some : (line : List ℕ) (held b : ℕ) → (held ≤ 66) × (length line ≡ 66) → (held ≡ 0 → ⊥)
+pub ends-some : (line : List ℕ) (held b : ℕ) → (held ≤ lineRoom) × (length line ≡ lineRoom) → (held ≡ 0 → ⊥)
     → (eqb b 10 && eqb (getD line (held - 1) 0) 13) ≡ (eqb b 10 && text.endsInCR (take held line))
 ends-some line held b h ne =
     let le : held ≤ length line = omega (arith, h .0, h .1) in
@@ -156,7 +37,7 @@ ends-some line held b h ne =
 pub ends-none : (line : List ℕ) (held b : ℕ) → held ≡ 0 → false ≡ (eqb b 10 && text.endsInCR (take held line))
 ends-none line held b e = sym (ap (λ (m : ℕ). eqb b 10 && text.endsInCR (take m line)) e ∙ and-false (eqb b 10))
 
--- a line that has ended in CR is no empty one
+-- a line that ends in CR is not empty
 pub held-some : (line : List ℕ) (held b : ℕ) {r : Bool} → r ≡ (eqb b 10 && text.endsInCR (take held line)) → r ≡ true → 1 ≤ held
 held-some line zero b e t = absurd (false≢true (sym (and-false (eqb b 10)) ∙ sym e ∙ t))
 held-some line (suc held) b e t = omega arith
@@ -187,11 +68,13 @@ alike-last g [] k a b = absurd (not-suc-le-zero a)
 alike-last g (c ∷ h) [] a b = absurd (not-suc-le-zero b)
 alike-last g (c ∷ h) (d ∷ k) a b = alike-first g (c ∷ h) (d ∷ k) [] a b
 
+-- answers to lists of lines that are chosen by one test
 choose : (g : text.Stage) (p : Bool) (u v s t : List (List ℕ)) → text.answers g u ≡ text.answers g v → text.answers g s ≡ text.answers g t
     → text.answers g (cond p u s) ≡ text.answers g (cond p v t)
 choose g true u v s t m n = m
 choose g false u v s t m n = n
 
+-- such lines get the same answers, whatever follows
 alike : (g : text.Stage) (h k x : List ℕ) → Alike h k → text.answers g (text.linesFrom h x) ≡ text.answers g (text.linesFrom k x)
 alike g h k [] a = alike-last g h k (omega (arith, a .0)) (omega (arith, a .1))
 alike g h k (b ∷ x) a =
@@ -213,13 +96,14 @@ kept : (g : text.Stage) (h : List ℕ) (b : ℕ) (x : List ℕ) {r : Bool} → r
     → text.answers g (text.linesFrom h (b ∷ x)) ≡ text.answers g (text.linesFrom (h ++ (b ∷ [])) x)
 kept g h b x e f = ap (text.answers g) (skips _ _ (sym e ∙ f))
 
+-- what is owed after a byte that ends the line
 ended-line : (g : text.Stage) (h : List ℕ) (b : ℕ) (x : List ℕ) {r : Bool} → r ≡ (eqb b 10 && text.endsInCR h) → r ≡ true
     → text.answers g (text.linesFrom h (b ∷ x)) ≡ text.answers g (take (length h - 1) h ∷ text.linesFrom [] x)
 ended-line g h b x e t = ap (text.answers g) (picks _ _ (sym e ∙ t))
 
 -- a byte that is held
 pub took-byte : (s : Session) (line room out : List ℕ) (b : ℕ) {r : Bool} → Ready s line room → r ≡ (eqb b 10 && text.endsInCR (take (s .held) line))
-    → r ≡ false → s .held < 66
+    → r ≡ false → s .held < lineRoom
     → Took s line room out (b ∷ []) (record { held = s .held + 1; stage = s .stage; written = s .written }) (set line (s .held) b) room out
 took-byte s line room out b ready e f lt =
     let n = s .held in
@@ -238,7 +122,7 @@ took-byte s line room out b ready e f lt =
 
 -- a byte of a line that is too long already: it takes the place of the last
 pub took-last : (s : Session) (line room out : List ℕ) (b : ℕ) {r : Bool} → Ready s line room → r ≡ (eqb b 10 && text.endsInCR (take (s .held) line))
-    → r ≡ false → 66 ≤ s .held → Took s line room out (b ∷ []) s (set line 65 b) room out
+    → r ≡ false → lineRoom ≤ s .held → Took s line room out (b ∷ []) s (set line 65 b) room out
 took-last s line room out b ready e f ge =
     let n = s .held in
     let full : n ≡ 66 = omega (arith, ge, ready .0) in
@@ -293,6 +177,7 @@ took-line s line room out b a out′ room′ ready e t rep =
 pub took-none : (s : Session) (line room out : List ℕ) → Ready s line room → Took s line room out [] s line room out
 took-none s line room out ready = record { total = λ x. refl; ready = ready; most = omega arith; size = refl }
 
+-- some bytes and then others
 pub took-both : {s r q : Session} {line room out line₁ room₁ out₁ line₂ room₂ out₂ fed more : List ℕ} → Took s line room out fed r line₁ room₁ out₁
     → Took r line₁ room₁ out₁ more q line₂ room₂ out₂ → Took s line room out (fed ++ more) q line₂ room₂ out₂
 took-both {s} {r} {q} {line} {room} {out} {line₁} {room₁} {out₁} {line₂} {room₂} {out₂} {fed} {more} h k =
@@ -313,16 +198,16 @@ took-next {s} {r} {q} {line} {room} {out} {line₁} {room₁} {out₁} {line₂}
 
 -- a whole chunk, from a session that has written nothing
 pub took-chunk : (s : Session) (line room out chunk : List ℕ) {q : Session} {line′ room′ out′ : List ℕ} (i : ℕ) → length chunk ≤ i
-    → 128 * length chunk ≤ length out
+    → answerRoom * length chunk ≤ length out
     → Took (record { held = s .held; stage = s .stage; written = 0 }) line room out (take i chunk) q line′ room′ out′
-    → Ready q line′ room′ × (q .written ≤ length out′)
-    × ((x : List ℕ) → owedBy s line room (chunk ++ x) ≡ take (q .written) out′ ++ owedBy q line′ room′ x)
+    → TookChunk s line room chunk q line′ room′ out′
 took-chunk s line room out chunk i le most h =
-    let all : take i chunk ≡ chunk = take-all i chunk le in (
-      h .ready,
-      omega (arith, h .most, h .size, most, ap length all),
-      λ x. ap (λ (l : List ℕ). owedBy s line room (l ++ x)) (sym all) ∙ h .total x,
-    )
+    let all : take i chunk ≡ chunk = take-all i chunk le in
+    record {
+      total = λ x. ap (λ (l : List ℕ). owedBy s line room (l ++ x)) (sym all) ∙ h .total x;
+      ready = h .ready;
+      within = omega (arith, h .most, h .size, most, ap length all);
+    }
 
 -- ---- the end of the input
 
@@ -335,7 +220,7 @@ last-answer g [] pos = absurd (not-suc-le-zero pos)
 last-answer g (b ∷ h) pos = append-nil (text.replied g (text.readLine (b ∷ h)) .text)
 
 -- a last line that lacks its CR LF
-pub owes-line : (s : Session) (line room out : List ℕ) (a : Reply) (out′ room′ : List ℕ) → Ready s line room → (s .held ≡ 0 → ⊥) → 128 ≤ length out
+pub owes-line : (s : Session) (line room out : List ℕ) (a : Reply) (out′ room′ : List ℕ) → Ready s line room → (s .held ≡ 0 → ⊥) → answerRoom ≤ length out
     → Replies (text.replied (stageOf (s .stage) room) (text.readLine (take (s .held) line))) a out 0 out′ room′
     → (a .written ≤ length out′) × (take (a .written) out′ ≡ owedBy s line room [])
 owes-line s line room out a out′ room′ ready ne enough rep =
@@ -346,6 +231,7 @@ owes-line s line room out a out′ room′ ready ne enough rep =
       rep .text .text ∙ sym (last-answer (stageOf (s .stage) room) (take n line) pos),
     )
 
+-- at its end the program writes nothing more
 answers-ended : (ls : List (List ℕ)) → text.answers text.ended ls ≡ []
 answers-ended [] = refl
 answers-ended (l ∷ ls) = answers-ended ls
@@ -353,15 +239,3 @@ answers-ended (l ∷ ls) = answers-ended ls
 pub owes-nothing : (s : Session) (line room x : List ℕ) → s .stage ≡ Ended → owedBy s line room x ≡ []
 owes-nothing s line room x e =
     ap (λ (g : Stage). text.answers (stageOf g room) (text.linesFrom (take (s .held) line) x)) e ∙ answers-ended (text.linesFrom (take (s .held) line) x)
-
--- ---- stages that are known
-
-pub running-fits : (g : Stage) {n m : ℕ} → g ≡ Running n m → Within g → (n ≤ 8) × (m ≤ 24680)
-running-fits g e h = subst Within e h
-
--- at its end the program writes nothing
-pub replies-ended : {g : Stage} (room out : List ℕ) (at : ℕ) (r : text.Reading) → g ≡ Ended → Fits g room
-    → Replies (text.replied (stageOf g room) r) (record { stage = Ended; written = at }) out at out room
-replies-ended {g} room out at r e h =
-    replies-as (ap (λ (k : Stage). text.replied (stageOf k room) r) (sym e))
-    (record { text = appended-none out at; stage = refl; fits = (h .0, tt); most = omega arith })

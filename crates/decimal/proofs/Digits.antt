@@ -1,48 +1,19 @@
--- The digits of a number, one power of ten after the other.
-use mathlib.Core.Path.{_≡_, refl, _∙_, sym, ap, subst}
-use mathlib.Core.Bool.{Bool, true, false, _&&_, and-eq-true-iff}
-use mathlib.Core.List.{List, [], _∷_, _++_, append-nil}
+-- The digits of a number, one power of ten after the other: what they spell, a loop that writes them, a loop that counts them.
+use mathlib.Core.Path.{_≡_, _∙_, sym, ap, subst}
+use mathlib.Core.Bool.{true, false}
+use mathlib.Core.List.{List, [], _∷_, _++_}
 use Prim.Native.Nat.{ℕ, zero, suc, _+_, _-_, _*_, _/_, _%_, _^_, _≤_, _<_, suc-le-suc}
 use native.Mathlib.Omega.{arith}
-use native.Mathlib.Nat.{pow-suc, pow-succ', div-div-eq-div-mul, div-lt-iff-lt-mul, le-div-iff-mul-le, div-one, pow-le-pow-right, not-suc-le-zero, le-of-suc-le-suc, zero-add, add-zero, suc-add, add-suc}
-use lib.Dec.{leb, eqb}
-use lib.ListN.{length, getD, take, set, length-set}
-use lib.Seq.{append-snoc}
-use borrow.Author.Tests.{lt-ltb, le-ltb, leb-true, leb-false, eqb-true}
+use native.Mathlib.Nat.{pow-suc, pow-succ', div-div-eq-div-mul, div-lt-iff-lt-mul, le-div-iff-mul-le, div-one, not-suc-le-zero, le-of-suc-le-suc}
+use lib.Dec.{leb}
+use lib.ListN.{length, set}
+use borrow.Author.Tests.{lt-ltb, le-ltb, leb-true, leb-false}
 use Rattle.rules.specs.Text.{decimal, lastDigits}
 use Rattle.decimal.specs.Appended.{Appended, Digits}
-use Rattle.decimal.proofs.Texts.{appended-byte}
+use Rattle.decimal.proofs.Texts.{appended-byte, Growing, growing-starts, growing-on, growing-as, growing-ends}
+use Rattle.decimal.proofs.Powers.{power-pos}
 
--- ---- the table
-
-abbrev pub powers : List ℕ
-powers = 1 ∷ 10 ∷ 100 ∷ 1000 ∷ 10000 ∷ 100000 ∷ 1000000 ∷ 10000000 ∷ 100000000 ∷ 1000000000 ∷ []
-
--- each entry is the power of ten of its place, counted from i
-abbrev rising : ℕ → List ℕ → Bool
-rising i [] = true
-rising i (x ∷ xs) = eqb x (10 ^ i) && rising (suc i) xs
-
-at-place : (xs : List ℕ) (i : ℕ) → rising i xs ≡ true → (k : ℕ) → k < length xs → getD xs k 0 ≡ 10 ^ (i + k)
-at-place [] i t k h = absurd (not-suc-le-zero h)
-at-place (x ∷ xs) i t zero h =
-    eqb-true x (10 ^ i) (and-eq-true-iff (eqb x (10 ^ i)) (rising (suc i) xs) .0 t .0) ∙ ap (λ (m : ℕ). 10 ^ m) (sym (add-zero i))
-at-place (x ∷ xs) i t (suc k) h =
-    at-place xs (suc i) (and-eq-true-iff (eqb x (10 ^ i)) (rising (suc i) xs) .0 t .1) k (le-of-suc-le-suc h)
-    ∙ ap (λ (m : ℕ). 10 ^ m) (suc-add i k ∙ sym (add-suc i k))
-
--- the table's rule, from one test over the whole of it
-pub power-at : (k : ℕ) → k < 10 → getD powers k 0 ≡ 10 ^ k
-power-at k h = at-place powers 0 refl k h ∙ ap (λ (m : ℕ). 10 ^ m) (zero-add k)
-
-power-pos : (i : ℕ) → 0 < 10 ^ i
-power-pos i = pow-le-pow-right {n = 10} (omega arith) {i = 0} {j = i} (omega arith)
-
--- a power is no zero divisor
-pub power-some : (x i : ℕ) → x ≡ 10 ^ i → 0 < x
-power-some x i e = subst (λ (y : ℕ). 0 < y) (sym e) (power-pos i)
-
--- ---- digits
+-- ---- what the digits spell
 
 -- the last k digits of v, leading zeros too
 abbrev pub spelled : ℕ → ℕ → List ℕ
@@ -78,33 +49,24 @@ decimal-spelled v (suc j) d =
 
 -- the text s is written to `before` from `at` on, but for its last i digits, those of v, which come next, at `to`
 abbrev pub Spelling : List ℕ → ℕ → List ℕ → List ℕ → ℕ → ℕ → ℕ → Type 0
-Spelling before at s out v to i =
-    (length out ≡ length before) × (take to out ++ spelled i v ≡ take at before ++ s) × (to + i ≤ at + 10) × (i ≤ 10)
+Spelling before at s out v to i = Growing before at s out to (spelled i v) × (to + i ≤ at + 10) × (i ≤ 10)
 
 pub spelling-starts : (before : List ℕ) (at v k : ℕ) → Digits v k → Spelling before at (decimal v) before v at k
-spelling-starts before at v k d = (refl, ap (λ (l : List ℕ). take at before ++ l) (sym (decimal-spelled v k d)), omega (arith, d .1), d .1)
+spelling-starts before at v k d = (growing-as (decimal-spelled v k d) (growing-starts before at (decimal v)), omega (arith, d .1), d .1)
 
 pub spelling-on : (before s out : List ℕ) (at v to i d : ℕ) → Spelling before at s out v to i → 0 < i → at + 10 ≤ length before
     → d ≡ 48 + v / 10 ^ (i - 1) % 10 → Spelling before at s (set out to d) v (to + 1) (i - 1)
 spelling-on before s out at v to zero d h pos room e = absurd (not-suc-le-zero pos)
 spelling-on before s out at v to (suc i) d h pos room e =
     let m : suc i - 1 ≡ i = omega arith in
-    let lt : to < length out = omega (arith, h .0, h .2, room) in
-    let e′ : d ≡ 48 + v / 10 ^ i % 10 = rw m at e in (
-      length-set out to d ∙ h .0,
-      rw m
-          (ap (λ (l : List ℕ). l ++ spelled i v) ((appended-byte out to d lt) .text)
-          ∙ append-snoc (take to out) d (spelled i v)
-          ∙ ap (λ (x : ℕ). take to out ++ (x ∷ spelled i v)) e′
-          ∙ h .1),
-      omega (arith, h .2),
-      omega (arith, h .3),
-    )
+    let lt : to < length out = omega (arith, h .0 .room, h .1, room) in
+    let digit : 48 + v / 10 ^ i % 10 ≡ d = sym (rw m at e) in
+    let next = growing-on (growing-as (ap (λ (x : ℕ). x ∷ spelled i v) digit) (h .0)) (appended-byte out to d lt) in
+    (rw m next, omega (arith, h .1), omega (arith, h .2))
 
 pub spelling-ends : (before s out : List ℕ) (at v to i : ℕ) → Spelling before at s out v to i → i ≤ 0
     → Appended before at out to s × (to ≤ at + 10)
-spelling-ends before s out at v to zero h le =
-    (record { room = h .0; text = sym (append-nil (take to out)) ∙ h .1 }, omega (arith, h .2))
+spelling-ends before s out at v to zero h le = (growing-ends (h .0), omega (arith, h .1))
 spelling-ends before s out at v to (suc i) h le = absurd (not-suc-le-zero le)
 
 -- ---- a loop that counts digits

@@ -10,7 +10,8 @@ use lib.Dec.{leb, eqb}
 use lib.ListN.{length, getD, take, drop, drop-of-length-le, length-drop}
 use lib.Seq.{drop-cons, take-suc, take-all, getD-drop}
 use borrow.Author.Tests.{lt-ltb, le-ltb, le-leb, lt-leb, eq-eqb, ne-eqb, eqb-true, leb-true}
-use Rattle.rules.specs.Text.{Field, empty, number, other, Reading, unreadable, Word, freshWord, checkpointWord, sendWord, receiptWord, lineWord, failedWord, noWord, freshBytes, checkpointBytes, sendBytes, receiptBytes, lineBytes, failedBytes, Ask, oneNumber, twoNumbers, threeNumbers, asked, wordOf, digit, digits, valueFrom, fieldOf, fieldsFrom, readLine}
+use Rattle.rules.specs.Text.{Word, freshWord, checkpointWord, sendWord, receiptWord, lineWord, failedWord, noWord, freshBytes, checkpointBytes, sendBytes, receiptBytes, lineBytes, failedBytes, wordOf}
+use Rattle.rules.specs.Text.{Field, empty, number, other, Reading, unreadable, Ask, oneNumber, twoNumbers, threeNumbers, asked, digit, digits, valueFrom, fieldOf, fieldsFrom, readLine}
 use Rattle.rules.specs.Compared.{same}
 use Rattle.reading.specs.declared.Field as reading
 use Rattle.reading.specs.Meanings.{fieldAs, Ends}
@@ -22,7 +23,7 @@ drop-next s i lt = rw (add-one i) (drop-cons s i 0 lt)
 
 -- ---- words
 
--- two texts of one length, the same so far
+-- two texts of one length whose first i bytes are the same: the bytes left decide
 abbrev pub Matched : List ℕ → List ℕ → ℕ → Type 0
 Matched s t i = (i ≤ length s) × (length s ≡ length t) × (same s t ≡ same (drop i s) (drop i t))
 
@@ -67,7 +68,7 @@ digit-bounds b e d =
     let both = and-eq-true-iff (leb 48 b) (leb b 57) .0 (sym e ∙ d) in
     (leb-true 48 b (both .0), leb-true b 57 (both .1))
 
--- the first i bytes of s are digits of the value v: what is left decides the rest
+-- the first i bytes of s are digits, of the value v: the bytes left decide whether all are, and the value of all
 abbrev pub Valued : List ℕ → ℕ → ℕ → Type 0
 Valued s v i = (i ≤ length s) × (digits s ≡ digits (drop i s)) × (valueFrom 0 s ≡ valueFrom v (drop i s)) × (v < 10 ^ i)
 
@@ -90,7 +91,7 @@ valued-on s v i h lt d =
       rw up below,
     )
 
--- a field that fails a test of a number
+-- a field that is not empty and fails one of the tests of a number is `other`
 no-number : (s : List ℕ) → 0 < length s → (leb (length s) 10 && digits s && leb (valueFrom 0 s) 4294967295) ≡ false → other ≡ fieldOf s
 no-number [] pos e = absurd (not-suc-le-zero pos)
 no-number (b ∷ s) pos e = sym (skips _ _ e)
@@ -112,7 +113,7 @@ pub field-none : (s : List ℕ) → length s ≡ 0 → empty ≡ fieldOf s
 field-none [] e = refl
 field-none (b ∷ s) e = absurd (not-suc-le-zero (subst (λ (m : ℕ). suc (length s) ≤ m) e (omega arith)))
 
--- all of s is read
+-- all of s are digits, of the value v
 valued-end : (s : List ℕ) (v i : ℕ) → Valued s v i → length s ≤ i → (digits s ≡ true) × (valueFrom 0 s ≡ v)
 valued-end s v i h le = (h .1 ∙ ap digits (drop-of-length-le s le), h .2 ∙ ap (valueFrom v) (drop-of-length-le s le))
 
@@ -135,7 +136,7 @@ field-number (b ∷ s) v i h le pos ten small =
 
 -- ---- fields
 
--- no comma between `from` and i
+-- no comma from `from` up to i: the field that starts at `from` has these bytes, and the bytes left decide
 abbrev pub NoComma : List ℕ → ℕ → ℕ → Type 0
 NoComma s from i =
     (from ≤ i) × (i ≤ length s) × (fieldsFrom [] (drop from s) ≡ fieldsFrom (take (i - from) (drop from s)) (drop i s))
@@ -196,7 +197,7 @@ some-length (b ∷ s) ne = omega arith
 
 -- ---- calls
 
--- what holds of each word that w may be holds of the word that it is
+-- what holds of each word that has the bytes w, and of no word, holds of the word that w is
 word-cases : (P : Word → Type 0) (w : List ℕ)
     → (same w freshBytes ≡ true → P freshWord)
     → (same w checkpointBytes ≡ true → P checkpointWord)
@@ -212,13 +213,15 @@ word-cases P w a b c d e f g = choose _ a (choose _ b (choose _ c (choose _ d (c
     choose true h k = h refl
     choose false h k = k
 
--- the call of the word that w is
+-- bytes that are the same make the same call
 pub named : (x y z : Field) (w t : List ℕ) {r : Bool} → r ≡ same w t → r ≡ true → asked (wordOf t) x y z ≡ asked (wordOf w) x y z
 named x y z w t e h = ap (λ (l : List ℕ). asked (wordOf l) x y z) (sym (same-is w t (sym e ∙ h)))
 
+-- a test that has failed does not succeed
 no : {A : Type 0} {r s : Bool} → r ≡ s → r ≡ false → s ≡ true → A
 no e f t = absurd (false≢true (sym f ∙ e ∙ t))
 
+-- a word that is none of those with one number, with two and with three
 pub none-of-one : (w : List ℕ) (a : ℕ) {r s t : Bool}
     → r ≡ same w checkpointBytes → r ≡ false
     → s ≡ same w lineBytes → s ≡ false
@@ -239,7 +242,7 @@ pub none-of-three : (w : List ℕ) (a b c : ℕ) {r : Bool} → r ≡ same w rec
 none-of-three w a b c e f =
     word-cases (λ W. unreadable ≡ asked W (number a) (number b) (number c)) w (λ _. refl) (λ _. refl) (λ _. refl) (no e f) (λ _. refl) (λ _. refl) refl
 
--- fields that no word takes
+-- fields that no call takes, with one number, two or three
 pub none-takes : (W : Word) (x y z : Field)
     → ((f : ℕ → Ask) → oneNumber x y z f ≡ unreadable)
     → ((f : ℕ → ℕ → Ask) → twoNumbers x y z f ≡ unreadable)
@@ -253,12 +256,13 @@ none-takes lineWord x y z one two three = sym (one _)
 none-takes failedWord x y z one two three = sym (one _)
 none-takes noWord x y z one two three = refl
 
--- a field that is known to be a case of its enum
+-- what a line says with a field whose case of the enum is known
 pub told : (F : Field → Reading) (z : reading.Field) {z′ : reading.Field} → z ≡ z′ → F (fieldAs z′) ≡ F (fieldAs z)
 told F z e = ap (λ (x : reading.Field). F (fieldAs x)) (sym e)
 
 -- ---- a line
 
+-- the fields from one that ends with a comma on, and from one that ends with the line
 comma-cut : (s : List ℕ) (from r : ℕ) → Ends s from r → (r ≡ length s → ⊥)
     → fieldsFrom [] (drop from s) ≡ take (r - from) (drop from s) ∷ fieldsFrom [] (drop (r + 1) s)
 comma-cut s from r h ne =
@@ -272,7 +276,7 @@ line-cut s from r h e = h .2 ∙ skips _ _ (le-ltb r (length s) (omega (arith, e
 abbrev saidBy : List (List ℕ) → Reading
 saidBy l = asked (wordOf (getD l 0 [])) (fieldOf (getD l 1 [])) (fieldOf (getD l 2 [])) (fieldOf (getD l 3 []))
 
--- another count of fields than four
+-- a line with another count of fields than four is unreadable
 not-four : (s : List ℕ) (k : ℕ) → length (fieldsFrom [] s) ≡ k → eqb k 4 ≡ false → unreadable ≡ readLine s
 unfolding readLine
 not-four s k e f =
@@ -299,6 +303,7 @@ three-fields s a b c h ne k nf l e =
     ∙ ap (λ (m : List (List ℕ)). suc (suc (length m))) (line-cut s (b + 1) c l e))
     refl
 
+-- there is a field in every line
 fields-some : (held s : List ℕ) → 0 < length (fieldsFrom held s)
 fields-some held [] = omega arith
 fields-some held (b ∷ s) = either (eqb b 44) (fields-some (held ++ (b ∷ [])) s)
@@ -308,7 +313,7 @@ fields-some held (b ∷ s) = either (eqb b 44) (fields-some (held ++ (b ∷ []))
     either true h = omega arith
     either false h = h
 
--- three commas
+-- the fields of a line with three commas or more
 three-commas : (s : List ℕ) (a b c : ℕ) → Ends s 0 a → (a ≡ length s → ⊥) → Ends s (a + 1) b → (b ≡ length s → ⊥) → Ends s (b + 1) c
     → (c ≡ length s → ⊥)
     → fieldsFrom [] s
@@ -348,6 +353,7 @@ four-fields s a b c d le h ne k nf l nc m e =
     (ap (λ (x : Bool). cond (x && eqb (length (fieldsFrom [] s)) 4) (saidBy (fieldsFrom [] s)) unreadable) (le-leb (length s) 64 le)
     ∙ ap (λ (x : List (List ℕ)). cond (eqb (length x) 4) (saidBy x) unreadable) whole)
 
+-- what a line says with its fields as they were read
 pub read-as : (w : Word) {x y z x′ y′ z′ : Field} → x ≡ x′ → y ≡ y′ → z ≡ z′ → asked w x y z ≡ asked w x′ y′ z′
 read-as w {x} {y} {z} {x′} {y′} {z′} e f g =
     ap (λ (v : Field). asked w v y z) e ∙ ap (λ (v : Field). asked w x′ v z) f ∙ ap (λ (v : Field). asked w x′ y′ v) g
