@@ -15,7 +15,7 @@ ghost use Rattle.text.specs.Session.{tableRoom, lineRoom, Fits, Replies,
 use reading::Call;
 
 // The bytes of the largest table that the program takes, of 8 processes with 256 records each.
-pub const TABLE_ROOM: usize = 8 + 12 * 8 * (256 + 1);
+pub const TABLE_ROOM: usize = 8 + 4 * 8 * (shape::HEADING + shape::WIDTH * 256);
 
 // The bytes that are held of a line, at most.
 pub const LINE_ROOM: usize = 66;
