@@ -62,13 +62,13 @@ program_made() {
     }
 }
 
-# every example gets the answers that stand beside it, and two of them are what the gate runs the program on
+# every example gets the answers that stand beside it, and the listing is what the gate runs the program on
 examples_answered() {
     local name
     for name in listing worked overtaking restart; do
         target/bin/ckpt <"examples/$name.csv" | cmp - "examples/$name.answers.csv" || return 1
     done
-    cmp examples/listing.csv crates/ckpt/stdin && cmp examples/worked.csv crates/worked/stdin
+    cmp examples/listing.csv crates/ckpt/stdin
 }
 
 check "the engine's archive" make lib

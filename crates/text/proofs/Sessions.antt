@@ -13,11 +13,12 @@ use borrow.Author.Tests.{lt-leb}
 use Rattle.rules.specs.Text as text
 use Rattle.answers.specs.Shows.{answerRoom}
 use Rattle.reading.proofs.Tests.{picks, skips}
-use Rattle.text.specs.declared.Stage.{Stage}
-use Rattle.text.specs.declared.Stage.the-variants.{Ended}
+use Rattle.replies.specs.declared.Stage.{Stage}
+use Rattle.replies.specs.declared.Stage.the-variants.{Ended}
 use Rattle.text.specs.declared.Session.{Session}
-use Rattle.text.specs.declared.Reply.{Reply}
-use Rattle.text.specs.Session.{lineRoom, stageOf, Replies, owedBy, Ready, Took, TookChunk}
+use Rattle.replies.specs.declared.Reply.{Reply}
+use Rattle.text.specs.Session.{lineRoom, owedBy, Ready, Took, TookChunk}
+use Rattle.replies.specs.Replies.{stageOf, Replies}
 
 -- ---- a line that is held
 

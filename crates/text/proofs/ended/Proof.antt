@@ -2,7 +2,7 @@ use mathlib.Core.Path.{sym, ap}
 use mathlib.Core.Bool.{false≢true}
 use borrow.Author.Needs.{needs}
 use Rattle.text.proofs.Sessions.{owes-nothing}
-use Rattle.text.specs.Session.{isEnded}
+use Rattle.replies.specs.Replies.{isEnded}
 use Rattle.text.proofs.ended.Statement.{statement}
 use Rattle.text.proofs.ended.Tie as tie
 

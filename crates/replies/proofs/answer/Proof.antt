@@ -5,9 +5,9 @@ use lib.Seq.{length-take-le}
 use borrow.Author.Needs.{needs}
 use Rattle.reading.specs.Meanings.{readingOf}
 use Rattle.rules.specs.Text.{ran}
-use Rattle.text.proofs.Replies.{call-line, replies-answer}
-use Rattle.text.proofs.answer.Statement.{statement}
-use Rattle.text.proofs.answer.Tie as tie
+use Rattle.replies.proofs.Tables.{call-line, replies-answer}
+use Rattle.replies.proofs.answer.Statement.{statement}
+use Rattle.replies.proofs.answer.Tie as tie
 
 slice-relend-prefix-run : tie.Need-slice-relend-prefix-run
 slice-relend-prefix-run c = search needs

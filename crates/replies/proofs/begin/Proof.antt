@@ -5,9 +5,9 @@ use lib.Seq.{length-take-le}
 use borrow.Author.Needs.{needs}
 use Rattle.answers.proofs.Calls.{shows-none}
 use Rattle.rules.specs.Text.{freshOutcome}
-use Rattle.text.proofs.Replies.{in-range, room-enough, fresh-outcome, call-line, replies-answer}
-use Rattle.text.proofs.begin.Statement.{statement}
-use Rattle.text.proofs.begin.Tie as tie
+use Rattle.replies.proofs.Tables.{in-range, room-enough, fresh-outcome, call-line, replies-answer}
+use Rattle.replies.proofs.begin.Statement.{statement}
+use Rattle.replies.proofs.begin.Tie as tie
 
 table-size-requires : tie.Need-table-size-requires
 table-size-requires c κs = (

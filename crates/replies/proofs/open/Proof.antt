@@ -1,8 +1,8 @@
 use mathlib.Core.Path.{_∙_, sym}
 use borrow.Author.Needs.{needs}
-use Rattle.text.proofs.Replies.{no-fresh, opened-as, replies-stop, replies-as}
-use Rattle.text.proofs.open.Statement.{statement}
-use Rattle.text.proofs.open.Tie as tie
+use Rattle.replies.proofs.Tables.{no-fresh, opened-as, replies-stop, replies-as}
+use Rattle.replies.proofs.open.Statement.{statement}
+use Rattle.replies.proofs.open.Tie as tie
 
 enum-known-call : tie.Need-enum-known-call
 enum-known-call c = search needs

@@ -3,7 +3,7 @@ use mathlib.Core.Path.{_≡_, refl, _∙_, sym, ap, subst}
 use mathlib.Core.Logic.{inl, inr}
 use mathlib.Core.Bool.{Bool, true, cond, _&&_, and-eq-true-iff}
 use mathlib.Core.List.{List, [], _∷_, _++_}
-use Prim.Native.Nat.{ℕ, _+_, _*_, _≤_}
+use Prim.Native.Nat.{ℕ, _+_, _≤_}
 use native.Mathlib.Omega.{arith}
 use native.Mathlib.Nat.{le-refl, add-le-add, mul-le-mul, suc-ne-zero}
 use lib.Dec.{leb}
@@ -25,10 +25,10 @@ use Rattle.decimal.specs.Appended.{Appended}
 use Rattle.decimal.proofs.Texts.{appended-none, appended-as}
 use Rattle.answers.specs.declared.Ran.{Ran}
 use Rattle.answers.specs.Shows.{Shows, answerRoom, shown, shownLine}
-use Rattle.text.specs.declared.Stage.{Stage}
-use Rattle.text.specs.declared.Stage.the-variants.{Running, Ended}
-use Rattle.text.specs.declared.Reply.{Reply}
-use Rattle.text.specs.Session.{tableRoom, stageOf, Within, Fits, Replies}
+use Rattle.replies.specs.declared.Stage.{Stage}
+use Rattle.replies.specs.declared.Stage.the-variants.{Running, Ended}
+use Rattle.replies.specs.declared.Reply.{Reply}
+use Rattle.replies.specs.Replies.{tableRoom, stageOf, Within, Fits, Replies}
 
 -- ---- a table in its room
 

@@ -2,8 +2,8 @@ use mathlib.Core.Bool.{Bool, _&&_}
 use mathlib.Core.Path.{ap}
 use lib.Dec.{leb}
 use borrow.Author.Needs.{needs}
-use Rattle.text.proofs.in_program_range.Statement.{statement}
-use Rattle.text.proofs.in_program_range.Tie as tie
+use Rattle.replies.proofs.in_program_range.Statement.{statement}
+use Rattle.replies.proofs.in_program_range.Tie as tie
 
 in-range-requires : tie.Need-in-range-requires
 in-range-requires c κs = search needs

@@ -1,7 +1,7 @@
 use borrow.Author.Needs.{needs}
-use Rattle.text.proofs.Replies.{replied-as, replies-as, replies-ended, running-fits}
-use Rattle.text.proofs.answer_line.Statement.{statement}
-use Rattle.text.proofs.answer_line.Tie as tie
+use Rattle.replies.proofs.Tables.{replied-as, replies-as, replies-ended, running-fits}
+use Rattle.replies.proofs.answer_line.Statement.{statement}
+use Rattle.replies.proofs.answer_line.Tie as tie
 
 read-line-requires : tie.Need-read-line-requires
 read-line-requires c κs = search needs
