@@ -34,10 +34,10 @@ use mathlib.Core.Path.{refl}
 use mathlib.Core.List.{List, [], _∷_, _++_}
 use Prim.Native.Nat.{ℕ}
 use lib.Count.{ones, onesIn}
-use Rattle.xdr.specs.Words.{word, bytes}
+use Rattle.xdr.specs.Words.{word, putWord, putWords, bytes}
 use Rattle.rules.specs.Table.{layout, decoded, wellLaid}
 use Rattle.rules.specs.Steps.{checkpoint, send, receipt}
-use Rattle.rules.specs.Lines.{round, rounds, failureLine}
+use Rattle.rules.specs.FailureLine.{round, rounds, failureLine}
 use Rattle.rules.specs.Calls.{failureAnswer, freshOn, stepOn, lineOn, failedOn}
 use Rattle.rules.specs.Text.{fresh, step, line, failed}
 use Rattle.vectors.specs.Try.{Script, script, refused, accepted, lent, Agree}

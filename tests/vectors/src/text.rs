@@ -17,9 +17,9 @@ use mathlib.Core.Path.{_≡_, refl}
 use mathlib.Core.List.{List, [], _∷_, map}
 use Prim.Native.Nat.{ℕ}
 use lib.Count.{ones, onesIn}
-use Rattle.xdr.specs.Words.{word}
+use Rattle.xdr.specs.Words.{word, putWord, putWords}
 use Rattle.rules.specs.Table.{layout, decoded, wellLaid}
-use Rattle.rules.specs.Lines.{round, rounds, failureLine}
+use Rattle.rules.specs.FailureLine.{round, rounds, failureLine}
 use Rattle.rules.specs.Calls.{failureAnswer, freshOn, stepOn, lineOn, failedOn}
 use Rattle.rules.specs.Text.{textOutput, readLine}
 ";
