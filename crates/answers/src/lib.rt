@@ -1,14 +1,12 @@
-// The calls of the text program and the lines that it writes (document 01).
+// The lines that the text program writes (document 01).
 ghost use mathlib.Core.Path.{_≡_};
 ghost use mathlib.Core.Bool.{cond};
 ghost use Prim.Native.Nat.{_+_, _*_, _≤_};
 ghost use lib.Dec.{eqb};
-ghost use lib.ListN.{length, replicate};
-ghost use Rattle.rules.specs.Text.{furtherFields, lineEnd, aloneLine, ran as ranOf};
+ghost use lib.ListN.{length};
+ghost use Rattle.rules.specs.Text.{furtherFields, lineEnd, aloneLine};
 ghost use Rattle.decimal.specs.Appended.{Appended};
-ghost use Rattle.reading.specs.Meanings.{readingOf};
-ghost use Rattle.answers.specs.Shows.{Shows, areaRoom, answerRoom, fieldOr, shown, shownLine};
-use reading::Call;
+ghost use Rattle.answers.specs.Shows.{answerRoom, fieldOr, shown, shownLine};
 
 // The bytes of an answer area: ten words, as many as a failure line of eight processes has.
 pub const AREA_ROOM: usize = 40;
@@ -35,31 +33,6 @@ pub fn told(returned: u32, count: usize) -> Ran
     Ran {
         returned: returned,
         count: 0,
-    }
-}
-
-// Runs a line's call on a table of n processes. The area is all 0.
-pub fn run(call: Call, n: usize, table: &mut [u8], area: &mut [u8]) -> Ran
-    requires { ⌜ (n ≤ 8) × (now area ≡ replicate areaRoom 0) ⌝ }
-    ensures { λ r. ⌜ Shows (ranOf n (now (table .entry)) (readingOf call)) r (now (table .exit)) (now (area .exit)) ⌝ }
-{
-    match call {
-        Call::Fresh { n: _, e: _ } => told(99, 0),
-        Call::Checkpoint { p } => told(engine::ckpt_checkpoint(table, &mut area[..4], p), 1),
-        Call::Send { p, q } => told(engine::ckpt_send(table, &mut area[..8], p, q), 2),
-        Call::Receipt { p, q, k } => told(engine::ckpt_receipt(table, &mut area[..8], p, q, k), 2),
-        Call::Line { number } => {
-            let bytes = 4 * n;
-            told(engine::ckpt_line(&table[..], &mut area[..bytes], number), n)
-        },
-        Call::Failed { mask } => {
-            let bytes = 4 * n + 8;
-            told(
-                engine::ckpt_failed(&table[..], &mut area[..bytes], mask),
-                n + 2,
-            )
-        },
-        Call::Unreadable => told(99, 0),
     }
 }
 

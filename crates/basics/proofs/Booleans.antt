@@ -1,5 +1,5 @@
 -- Laws of tests that are put together, and of values that a test picks.
-use mathlib.Core.Path.{_≡_, refl, sym}
+use mathlib.Core.Path.{_≡_, refl, sym, ap}
 use mathlib.Core.Logic.{_⊎_, inl, inr}
 use mathlib.Core.Bool.{Bool, true, false, cond, _&&_, _||_, and-false, and-eq-true-iff}
 use Prim.Native.Nat.{ℕ}
@@ -41,6 +41,13 @@ pub interchange : (a b c d : Bool) → ((a && b) && (c && d)) ≡ ((a && c) && (
 interchange true true c d = refl
 interchange true false c d = sym (and-false c)
 interchange false b c d = refl
+
+-- the value of a choice whose test is known
+pub picks : {A : Type 0} {b : Bool} (x y : A) → b ≡ true → cond b x y ≡ x
+picks x y e = ap (λ (c : Bool). cond c x y) e
+
+pub skips : {A : Type 0} {b : Bool} (x y : A) → b ≡ false → cond b x y ≡ y
+skips x y e = ap (λ (c : Bool). cond c x y) e
 
 -- one value where either test holds, or where both do
 pub either : {A : Type 0} (x y : Bool) (u v : A) → cond x u (cond y u v) ≡ cond (x || y) u v

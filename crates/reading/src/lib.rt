@@ -1,17 +1,9 @@
 // Reading a line of the text program (document 01).
 ghost use mathlib.Core.Path.{_≡_};
-ghost use Prim.Native.Nat.{_≤_};
-ghost use lib.ListN.{length};
-ghost use Rattle.rules.specs.Text.{number, empty, asked, wordOf, digit as digitOf, fieldOf, readLine};
-ghost use Rattle.rules.specs.Compared.{same as sameBytes};
-ghost use Rattle.reading.specs.Meanings.{fieldAs, readingOf, Ends};
-
-// What a field after the word holds.
-enum Field {
-    Empty,
-    Number(u32),
-    Other,
-}
+ghost use Rattle.rules.specs.Text.{number, empty, asked, wordOf, readLine};
+ghost use Rattle.fields.specs.Fields.{fieldAs};
+ghost use Rattle.reading.specs.Meanings.{readingOf};
+use fields::Field;
 
 // What a line says.
 pub enum Call {
@@ -24,83 +16,17 @@ pub enum Call {
     Unreadable,
 }
 
-// Whether b is a digit.
-fn digit(b: u8) -> bool
-    ensures { λ r. ⌜ r ≡ digitOf b ⌝ }
-{
-    (48 <= b) & (b <= 57)
-}
-
-// A field after the word: a number has 1 to 10 digits and at most 32 bits.
-fn read_field(s: &[u8]) -> Field
-    ensures { λ r. ⌜ fieldAs r ≡ fieldOf (now (s .entry)) ⌝ }
-{
-    if s.len() == 0 {
-        return Field::Empty;
-    }
-    if s.len() > 10 {
-        return Field::Other;
-    }
-    let mut v: u64 = 0;
-    let mut i: usize = 0;
-    while i < s.len() {
-        let b = s[i];
-        if digit(b) {
-            v = 10 * v + (b - 48) as u64;
-            i += 1;
-        } else {
-            return Field::Other;
-        }
-    }
-    if v > 4294967295 {
-        return Field::Other;
-    }
-    Field::Number(v as u32)
-}
-
-// Whether two texts are the same.
-fn same(s: &[u8], t: &[u8]) -> bool
-    ensures { λ r. ⌜ r ≡ sameBytes (now (s .entry)) (now (t .entry)) ⌝ }
-{
-    if s.len() != t.len() {
-        return false;
-    }
-    let mut i: usize = 0;
-    while i < s.len() {
-        if s[i] != t[i] {
-            return false;
-        }
-        i += 1;
-    }
-    true
-}
-
-// Where the field that starts at `from` ends: at the next comma, or with the line.
-fn end(s: &[u8], from: usize) -> usize
-    requires { ⌜ from ≤ length (now s) ⌝ }
-    ensures { λ r. ⌜ Ends (now (s .entry)) from r ⌝ }
-{
-    let mut i = from;
-    while i < s.len() {
-        if s[i] == 44 {
-            return i;
-        }
-        i += 1;
-    }
-    i
-}
-
 // The call that the word w makes with one number.
 fn with_one(w: &[u8], a: u32) -> Call
     ensures { λ r. ⌜ readingOf r ≡ asked (wordOf (now (w .entry))) (number a) empty empty ⌝ }
 {
-    if same(w, b"checkpoint") {
+    if fields::same(w, b"checkpoint") {
         return Call::Checkpoint { p: a };
     }
-    if same(w, b"line") {
+    if fields::same(w, b"line") {
         return Call::Line { number: a };
     }
-    if same(w, b"failed") {
+    if fields::same(w, b"failed") {
         return Call::Failed { mask: a };
     }
     Call::Unreadable
@@ -110,10 +36,10 @@ fn with_one(w: &[u8], a: u32) -> Call
 fn with_two(w: &[u8], a: u32, b: u32) -> Call
     ensures { λ r. ⌜ readingOf r ≡ asked (wordOf (now (w .entry))) (number a) (number b) empty ⌝ }
 {
-    if same(w, b"send") {
+    if fields::same(w, b"send") {
         return Call::Send { p: a, q: b };
     }
-    if same(w, b"fresh") {
+    if fields::same(w, b"fresh") {
         return Call::Fresh { n: a, e: b };
     }
     Call::Unreadable
@@ -123,7 +49,7 @@ fn with_two(w: &[u8], a: u32, b: u32) -> Call
 fn with_three(w: &[u8], a: u32, b: u32, c: u32) -> Call
     ensures { λ r. ⌜ readingOf r ≡ asked (wordOf (now (w .entry))) (number a) (number b) (number c) ⌝ }
 {
-    if same(w, b"receipt") {
+    if fields::same(w, b"receipt") {
         return Call::Receipt { p: a, q: b, k: c };
     }
     Call::Unreadable
@@ -174,26 +100,26 @@ pub fn read_line(s: &[u8]) -> Call
     if n > 64 {
         return Call::Unreadable;
     }
-    let a = end(s, 0);
+    let a = fields::end(s, 0);
     if a == n {
         return Call::Unreadable;
     }
     let x = a + 1;
-    let b = end(s, x);
+    let b = fields::end(s, x);
     if b == n {
         return Call::Unreadable;
     }
     let y = b + 1;
-    let c = end(s, y);
+    let c = fields::end(s, y);
     if c == n {
         return Call::Unreadable;
     }
     let z = c + 1;
-    if end(s, z) != n {
+    if fields::end(s, z) != n {
         return Call::Unreadable;
     }
-    let f = read_field(&s[x..b]);
-    let g = read_field(&s[y..c]);
-    let h = read_field(&s[z..]);
+    let f = fields::read_field(&s[x..b]);
+    let g = fields::read_field(&s[y..c]);
+    let h = fields::read_field(&s[z..]);
     after_word(&s[..a], f, g, h)
 }

@@ -81,7 +81,7 @@ fn answer(call: Call, n: usize, size: usize, room: &mut [u8], out: &mut [u8], at
     ensures { λ r. ⌜ Replies (replied (running n (take size (now (room .entry)))) (readingOf call)) r (now (out .entry)) at (now (out .exit)) (now (room .exit)) ⌝ }
 {
     let mut area = [0u8; answers::AREA_ROOM];
-    let r = answers::run(call, n, &mut room[..size], &mut area);
+    let r = calls::run(call, n, &mut room[..size], &mut area);
     let written = answers::put_answer(out, at, n, r, &area);
     Reply {
         stage: Stage::Running { n: n, size: size },

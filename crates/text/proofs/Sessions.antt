@@ -12,7 +12,7 @@ use lib.Seq.{take-take, take-suc, take-suc-set, take-all, length-take-le, getD-t
 use borrow.Author.Tests.{lt-leb}
 use Rattle.rules.specs.Text as text
 use Rattle.answers.specs.Shows.{answerRoom}
-use Rattle.reading.proofs.Tests.{picks, skips}
+use Rattle.basics.proofs.Booleans.{picks, skips}
 use Rattle.replies.specs.declared.Stage.{Stage}
 use Rattle.replies.specs.declared.Stage.the-variants.{Ended}
 use Rattle.text.specs.declared.Session.{Session}

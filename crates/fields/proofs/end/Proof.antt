@@ -2,9 +2,9 @@ use Prim.Native.Nat.{_-_}
 use native.Mathlib.Omega.{arith}
 use lib.ListN.{length}
 use borrow.Author.Needs.{needs}
-use Rattle.reading.proofs.Lines.{NoComma, no-comma-starts, no-comma-on, comma-found, line-found}
-use Rattle.reading.proofs.end.Statement.{statement}
-use Rattle.reading.proofs.end.Tie as tie
+use Rattle.fields.proofs.Texts.{NoComma, no-comma-starts, no-comma-on, comma-found, line-found}
+use Rattle.fields.proofs.end.Statement.{statement}
+use Rattle.fields.proofs.end.Tie as tie
 
 abbrev Inv-loop : tie.InvT-loop
 Inv-loop s from i₀ i = NoComma s from i

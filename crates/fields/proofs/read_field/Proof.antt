@@ -3,9 +3,9 @@ use Prim.Native.Nat.{_-_}
 use native.Mathlib.Omega.{arith}
 use lib.ListN.{length, getD}
 use borrow.Author.Needs.{needs}
-use Rattle.reading.proofs.Lines.{Valued, valued-small, valued-on, valued-not, digit-bounds, field-none, field-long, field-large, field-number, some-length}
-use Rattle.reading.proofs.read_field.Statement.{statement}
-use Rattle.reading.proofs.read_field.Tie as tie
+use Rattle.fields.proofs.Texts.{Valued, valued-small, valued-on, valued-not, digit-bounds, field-none, field-long, field-large, field-number, some-length}
+use Rattle.fields.proofs.read_field.Statement.{statement}
+use Rattle.fields.proofs.read_field.Tie as tie
 
 abbrev Inv-loop : tie.InvT-loop
 Inv-loop s v₀ i₀ v i = Valued s v i

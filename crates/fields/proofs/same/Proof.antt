@@ -3,9 +3,9 @@ use Prim.Native.Nat.{_-_}
 use native.Mathlib.Omega.{arith}
 use lib.ListN.{length}
 use borrow.Author.Needs.{needs}
-use Rattle.reading.proofs.Lines.{Matched, matched-on, matched-not, matched-all, same-length}
-use Rattle.reading.proofs.same.Statement.{statement}
-use Rattle.reading.proofs.same.Tie as tie
+use Rattle.fields.proofs.Texts.{Matched, matched-on, matched-not, matched-all, same-length}
+use Rattle.fields.proofs.same.Statement.{statement}
+use Rattle.fields.proofs.same.Tie as tie
 
 abbrev Inv-loop : tie.InvT-loop
 Inv-loop s t i₀ i = Matched s t i

@@ -5,9 +5,9 @@ use lib.Seq.{length-take-le}
 use borrow.Author.Needs.{needs}
 use Rattle.rules.specs.Calls.{stepOn, lineOn, failedOn}
 use Rattle.rules.specs.Steps.{checkpoint, send, receipt}
-use Rattle.answers.proofs.Calls.{ran-as, area-length, shows-called, shows-none}
-use Rattle.answers.proofs.run.Statement.{statement}
-use Rattle.answers.proofs.run.Tie as tie
+use Rattle.calls.proofs.Calls.{ran-as, area-length, shows-called, shows-none}
+use Rattle.calls.proofs.run.Statement.{statement}
+use Rattle.calls.proofs.run.Tie as tie
 
 enum-told : tie.Need-enum-told
 enum-told c = search needs
