@@ -14,9 +14,15 @@ pub fn run(call: Call, n: usize, table: &mut [u8], area: &mut [u8]) -> answers::
 {
     match call {
         Call::Fresh { n: _, e: _ } => answers::told(99, 0),
-        Call::Checkpoint { p } => answers::told(engine::ckpt_checkpoint(table, &mut area[..4], p), 1),
+        Call::Checkpoint { p } => answers::told(
+            engine::ckpt_checkpoint(table, &mut area[..4], p),
+            1,
+        ),
         Call::Send { p, q } => answers::told(engine::ckpt_send(table, &mut area[..8], p, q), 2),
-        Call::Receipt { p, q, k } => answers::told(engine::ckpt_receipt(table, &mut area[..8], p, q, k), 2),
+        Call::Receipt { p, q, k } => answers::told(
+            engine::ckpt_receipt(table, &mut area[..8], p, q, k),
+            2,
+        ),
         Call::Line { number } => {
             let bytes = 4 * n;
             answers::told(engine::ckpt_line(&table[..], &mut area[..bytes], number), n)

@@ -4,9 +4,9 @@ ghost use mathlib.Core.Bool.{true, false};
 ghost use Prim.Native.Nat.{_*_, _≤_};
 ghost use lib.ListN.{length};
 ghost use Rattle.answers.specs.Shows.{answerRoom};
-ghost use Rattle.text.specs.Session.{lineRoom, Ready};
+ghost use Rattle.session.specs.Session.{lineRoom, Ready};
 ghost use Rattle.replies.specs.Replies.{tableRoom, isEnded};
-use text::Session;
+use session::Session;
 
 // The bytes that are read at a time, at most.
 const CHUNK: usize = 1024;
@@ -86,7 +86,7 @@ fn run_in(line: &mut [u8], room: &mut [u8], out: &mut [u8], from: i32, to: i32)
 
 // Runs the program on the input of one descriptor and the output of another. It holds a line, a table, and the answers to a chunk.
 pub fn run(from: i32, to: i32) {
-    let mut line = [0u8; text::LINE_ROOM];
+    let mut line = [0u8; session::LINE_ROOM];
     let mut room = [0u8; replies::TABLE_ROOM];
     let mut out = [0u8; OUT_ROOM];
     run_in(&mut line, &mut room, &mut out, from, to);

@@ -2,8 +2,8 @@
 use mathlib.Core.Path.{_≡_, _∙_, sym, ap}
 use mathlib.Core.List.{List, [], _∷_, _++_, append-assoc}
 use Prim.Native.Nat.{ℕ}
-use Rattle.text.specs.declared.Session.{Session}
-use Rattle.text.specs.Session.{owedBy}
+use Rattle.session.specs.declared.Session.{Session}
+use Rattle.session.specs.Session.{owedBy}
 use Rattle.text.specs.Chunks.{Turn, Fed, chunks, outputs, AnyChunks}
 
 fed-all : (s : Session) (line room : List ℕ) (ts : List Turn) (rest last : List ℕ) → Fed s line room ts rest last

@@ -1,10 +1,17 @@
 -- However the input is cut into chunks, the outputs joined are `textOutput` of the whole: the statement.
 use mathlib.Core.Path.{_≡_}
 use mathlib.Core.List.{List, [], _∷_, _++_}
-use Prim.Native.Nat.{ℕ}
+use Prim.Native.Nat.{ℕ, _≤_}
+use lib.ListN.{length, take}
 use Rattle.rules.specs.Text.{textOutput}
-use Rattle.text.specs.declared.Session.{Session}
-use Rattle.text.specs.Session.{owedBy}
+use Rattle.session.specs.declared.Session.{Session}
+use Rattle.session.specs.Session.{owedBy, Ready}
+
+-- the session s took a chunk of the input and became r: what was owed is what `out′` now begins with and what is owed after it
+pub record TookChunk (s : Session) (line room chunk : List ℕ) (r : Session) (line′ room′ out′ : List ℕ) : Type 0 where
+  pub total : (x : List ℕ) → owedBy s line room (chunk ++ x) ≡ take (r .written) out′ ++ owedBy r line′ room′ x
+  pub ready : Ready r line′ room′
+  pub within : r .written ≤ length out′
 
 -- a call of `feed`: the chunk, the bytes that it wrote, and the session, the held line and the room as it left them
 pub record Turn : Type 0 where

@@ -1,2 +1,1 @@
-pub mod Session
 pub mod Chunks

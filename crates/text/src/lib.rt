@@ -2,68 +2,17 @@
 //
 // A session is fed the input chunk by chunk, cut anywhere. What it has written and what it still owes make up `textOutput` of the whole.
 ghost use mathlib.Core.Path.{_≡_};
-ghost use mathlib.Core.Bool.{true, _&&_};
-ghost use mathlib.Core.List.{List, [], _∷_};
-ghost use Prim.Native.Nat.{ℕ, _+_, _*_, _≤_};
-ghost use lib.Dec.{eqb};
+ghost use mathlib.Core.Bool.{true};
+ghost use mathlib.Core.List.{List, []};
+ghost use Prim.Native.Nat.{ℕ, _*_, _≤_};
 ghost use lib.ListN.{length, take};
-ghost use Rattle.rules.specs.Text.{endsInCR, textOutput};
+ghost use Rattle.rules.specs.Text.{textOutput};
 ghost use Rattle.answers.specs.Shows.{answerRoom};
 ghost use Rattle.replies.specs.Replies.{isEnded};
-ghost use Rattle.text.specs.Session.{lineRoom, Ready, Took, TookChunk, owedBy};
+ghost use Rattle.session.specs.Session.{Ready, owedBy};
+ghost use Rattle.text.specs.Chunks.{TookChunk};
 use replies::Stage;
-
-// The bytes that are held of a line, at most.
-pub const LINE_ROOM: usize = 66;
-
-// How many bytes are held of the line that has not ended, where the program stands, and how many bytes are written. Of a line of 66
-// bytes and more the first 65 are held and the last: enough to know that it is too long, and whether it ends in CR.
-pub struct Session {
-    pub held: usize,
-    pub stage: Stage,
-    pub written: usize,
-}
-
-// Whether b ends the line of which `held` bytes are held: only CR LF does.
-fn ends(line: &[u8], held: usize, b: u8) -> bool
-    requires { ⌜ (held ≤ lineRoom) × (length (now line) ≡ lineRoom) ⌝ }
-    ensures { λ r. ⌜ r ≡ (eqb b 10 && endsInCR (take held (now (line .entry)))) ⌝ }
-{
-    if held == 0 {
-        return false;
-    }
-    (b == 10) & (line[held - 1] == 13)
-}
-
-// Takes one byte of the input. It ends the line, which is then answered, or it is held.
-fn take_byte(s: Session, line: &mut [u8], room: &mut [u8], b: u8, out: &mut [u8]) -> Session
-    requires { ⌜ Ready s (now line) (now room) × (s .written + answerRoom ≤ length (now out)) ⌝ }
-    ensures { λ r. ⌜ Took s (now (line .entry)) (now (room .entry)) (now (out .entry)) (b ∷ []) r (now (line .exit)) (now (room .exit)) (now (out .exit)) ⌝ }
-{
-    let held = s.held;
-    let stage = s.stage;
-    let written = s.written;
-    if ends(line, held, b) {
-        let before = held - 1;
-        let r = replies::answer_line(stage, &line[..before], room, out, written);
-        let after = r.stage;
-        return Session {
-            held: 0,
-            stage: after,
-            written: r.written,
-        };
-    }
-    if held < LINE_ROOM {
-        line[held] = b;
-        return Session {
-            held: held + 1,
-            stage: stage,
-            written: written,
-        };
-    }
-    line[LINE_ROOM - 1] = b;
-    s
-}
+use session::Session;
 
 // A session that has read nothing.
 pub fn start() -> Session
@@ -85,7 +34,7 @@ pub fn feed(s: Session, line: &mut [u8], room: &mut [u8], chunk: &[u8], out: &mu
     c.written = 0;
     let mut i: usize = 0;
     while i < chunk.len() {
-        c = take_byte(c, line, room, chunk[i], out);
+        c = session::take_byte(c, line, room, chunk[i], out);
         i += 1;
     }
     c

@@ -2,7 +2,7 @@ use mathlib.Core.Path.{_≡_, refl, _∙_, sym, subst}
 use native.Mathlib.Omega.{arith}
 use lib.ListN.{length}
 use borrow.Author.Needs.{needs}
-use Rattle.text.specs.Session.{Ready}
+use Rattle.session.specs.Session.{Ready}
 use Rattle.replies.specs.Replies.{Within}
 use Rattle.program.proofs.run_in.Statement.{statement}
 use Rattle.program.proofs.run_in.Tie as tie

@@ -3,7 +3,7 @@ use mathlib.Core.Path.{refl, _∙_, sym}
 use native.Mathlib.Omega.{arith}
 use lib.Seq.{length-take-le}
 use borrow.Author.Needs.{needs}
-use Rattle.answers.proofs.Calls.{shows-none}
+use Rattle.calls.proofs.Calls.{shows-none}
 use Rattle.rules.specs.Text.{freshOutcome}
 use Rattle.replies.proofs.Tables.{in-range, room-enough, fresh-outcome, call-line, replies-answer}
 use Rattle.replies.proofs.begin.Statement.{statement}

@@ -5,7 +5,7 @@ use lib.ListN.{length, take}
 use lib.Seq.{length-take-le}
 use borrow.Author.Needs.{needs}
 use Rattle.text.proofs.Sessions.{took-none, took-next, took-chunk}
-use Rattle.text.specs.Session.{Took}
+use Rattle.session.specs.Session.{Took}
 use Rattle.text.proofs.feed.Statement.{statement}
 use Rattle.text.proofs.feed.Tie as tie
 

@@ -6,7 +6,7 @@ use lib.ListN.{length, take}
 use Rattle.rules.specs.Text as text
 use Rattle.answers.specs.Shows.{answerRoom}
 use Rattle.replies.specs.Replies.{stageOf, Fits}
-use Rattle.text.specs.declared.Session.{Session}
+use Rattle.session.specs.declared.Session.{Session}
 
 -- the bytes that are held of a line, at most
 abbrev pub lineRoom : ℕ
@@ -28,9 +28,3 @@ pub record Took (s : Session) (line room out fed : List ℕ) (r : Session) (line
   pub ready : Ready r line′ room′
   pub most : r .written ≤ s .written + answerRoom * length fed
   pub size : length out′ ≡ length out
-
--- the session s took a chunk of the input and became r: what was owed is what `out′` now begins with and what is owed after it
-pub record TookChunk (s : Session) (line room chunk : List ℕ) (r : Session) (line′ room′ out′ : List ℕ) : Type 0 where
-  pub total : (x : List ℕ) → owedBy s line room (chunk ++ x) ≡ take (r .written) out′ ++ owedBy r line′ room′ x
-  pub ready : Ready r line′ room′
-  pub within : r .written ≤ length out′

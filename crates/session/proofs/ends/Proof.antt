@@ -1,7 +1,7 @@
 use borrow.Author.Needs.{needs}
-use Rattle.text.proofs.Sessions.{ends-some, ends-none}
-use Rattle.text.proofs.ends.Statement.{statement}
-use Rattle.text.proofs.ends.Tie as tie
+use Rattle.session.proofs.Bytes.{ends-some, ends-none}
+use Rattle.session.proofs.ends.Statement.{statement}
+use Rattle.session.proofs.ends.Tie as tie
 
 returns : tie.Need-returns
 returns c = ends-none (c .before .args .line .now) _ (c .before .args .b) (c .if1 .taken)

@@ -3,9 +3,9 @@ use Prim.Native.Nat.{_-_}
 use native.Mathlib.Omega.{arith}
 use lib.Seq.{length-take-le}
 use borrow.Author.Needs.{needs}
-use Rattle.text.proofs.Sessions.{held-some, took-line, took-byte, took-last}
-use Rattle.text.proofs.take_byte.Statement.{statement}
-use Rattle.text.proofs.take_byte.Tie as tie
+use Rattle.session.proofs.Bytes.{held-some, took-line, took-byte, took-last}
+use Rattle.session.proofs.take_byte.Statement.{statement}
+use Rattle.session.proofs.take_byte.Tie as tie
 
 ends-requires : tie.Need-ends-requires
 ends-requires c κs = search needs
