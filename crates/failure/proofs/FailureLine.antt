@@ -26,9 +26,10 @@ use Rattle.records.proofs.FailureLines.{failure-line}
 use Rattle.records.proofs.Masks.{two-positive, mask-lt}
 use Rattle.tables.proofs.WellLaid.{decoded-count, decoded-short}
 use Rattle.tables.proofs.OneCall.{valid}
-use Rattle.lowering.specs.Lowering.{Laid, Counted, Over, Lowered, NoneAlways, NoneLate}
+use Rattle.lowering.specs.Lowering.{Lowered, NoneAlways, NoneLate}
+use Rattle.tops.specs.Tops.{Laid, Counted, Over}
 use Rattle.lowering.proofs.Cuts.{always-lowered, none-clean, over-line}
-use Rattle.lowering.proofs.Steps.{is-valid, processes, section}
+use Rattle.tops.proofs.Starts.{is-valid, processes, section}
 
 -- ---- rows
 

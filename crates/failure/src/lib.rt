@@ -11,14 +11,14 @@ ghost use Rattle.rules.specs.Table.{decoded};
 ghost use Rattle.rules.specs.Lines.{maskBelow};
 ghost use Rattle.rules.specs.FailureLine.{failureLine};
 ghost use Rattle.rules.specs.Calls.{outcome, first, tableRows, failureRows, failedOn};
-ghost use Rattle.lowering.specs.Lowering.{Laid};
+ghost use Rattle.tops.specs.Tops.{Laid};
 
 // The positions of the failure line, of which the first n count.
 fn positions(t: &[u8], n: usize, e: usize, mask: u32) -> [u16; 16]
     requires { ⌜ Laid (now t) n e ⌝ }
     ensures { λ r. ⌜ ((p : ℕ) → p < n → (getD r p 0 ≡ getD (failureLine mask (decoded (now (t .entry)))) p 0)) × ((p : ℕ) → p < n → getD r p 0 ≤ 1024) ⌝ }
 {
-    let start = lowering::tops(t, n, e, mask);
+    let start = tops::tops(t, n, e, mask);
     let cut = lowering::settled(t, n, e, lowering::pruned(t, n, e, start));
     cut.position
 }

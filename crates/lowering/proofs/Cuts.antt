@@ -6,27 +6,19 @@ use mathlib.Core.List.{List, [], List·Memᴰ, List·Memᴰ·not-nil}
 use Prim.Native.Nat.{ℕ, zero, suc, _+_, _%_, _≤_, _<_}
 use native.Mathlib.Nat.{le-refl, le-trans, mod-eq-of-lt}
 use native.Mathlib.Omega.{arith}
-use native.Mathlib.Decide.{decLt}
-use lib.Dec.{eqb}
+use native.Mathlib.Decide.{decLt, ℕ-discrete}
 use lib.ListN.{length, getD, set, length-set, List·getD-eq-default}
 use lib.Seq.{getD-set-same, getD-set-other}
-use borrow.Author.Tests.{ltb-false, le-ltb, eqb-true, eqb-false, not-false}
+use borrow.Author.Tests.{ltb-false, le-ltb, not-false}
 use Rattle.rules.specs.Records.{Event, basic, forced, sent, received, History, State, history, sends, hasSend}
 use Rattle.rules.specs.Lines.{upto, part, orphan, NoOrphan, failed, permitted, Permitted}
 use Rattle.rules.specs.FailureLine.{any, lowered, eachFrom, failureLine}
-use Rattle.basics.proofs.Booleans.{Test, passes, fails, test}
 use Rattle.records.proofs.Histories.{sends-older, destination-older, holds-held, held-holds, holds-older}
 use Rattle.records.proofs.Cuts.{upto-is-older, upto-mono, any-older, any-none, none-any, lowered-le, lowered-permitted, lowered-keeps}
 use Rattle.records.proofs.FailureLines.{each-length, each-at, failure-line}
 use Rattle.cuts.specs.Tests.{late}
-use Rattle.lowering.specs.Lowering.{Counted, Over, Lowered, alwaysOrphan, NoneAlways, NoneLate}
-
-pub decEq : (q p : ℕ) → Dec (q ≡ p)
-decEq q p = go (test (eqb q p))
-  where
-    go : Test (eqb q p) → Dec (q ≡ p)
-    go (passes e) = yes (eqb-true q p e)
-    go (fails e) = no (eqb-false q p e)
+use Rattle.lowering.specs.Lowering.{Lowered, alwaysOrphan, NoneAlways, NoneLate}
+use Rattle.tops.specs.Tops.{Counted, Over}
 
 -- the sum of the first p positions
 abbrev pub total : List ℕ → ℕ → ℕ
@@ -74,8 +66,8 @@ module _ (s : State) (P : List ℕ) (p : ℕ) (wide : p < length P) (v : ℕ) wh
       record {
         positions = length-set P p v ∙ C .positions;
         sixteen = length-set S p k ∙ C .sixteen;
-        within = λ q lq. within q lq (decEq q p);
-        counted = λ q lq. counted q lq (decEq q p);
+        within = λ q lq. within q lq (ℕ-discrete q p);
+        counted = λ q lq. counted q lq (ℕ-discrete q p);
       }
     where
       within : (q : ℕ) → q < length s → Dec (q ≡ p) → getD (set P p v) q 0 ≤ length (history s q)
@@ -96,7 +88,7 @@ module _ (s : State) (P : List ℕ) (p : ℕ) (wide : p < length P) (v : ℕ) wh
 
   pub set-total : (n : ℕ) → p < n → total (set P p v) n + getD P p 0 ≡ total P n + v
   set-total zero lt = absurd (omega arith)
-  set-total (suc n) lt = go (decEq p n) (set-total n)
+  set-total (suc n) lt = go (ℕ-discrete p n) (set-total n)
     where
       go : Dec (p ≡ n) → (p < n → total (set P p v) n + getD P p 0 ≡ total P n + v)
           → total (set P p v) n + getD (set P p v) n 0 + getD P p 0 ≡ total P n + getD P n 0 + v
@@ -116,7 +108,7 @@ Fair s P p o = (mask : ℕ) → Over mask s P → (other : List ℕ) → Permitt
 
 pub lower-fair : (s : State) (P : List ℕ) (p : ℕ) → p < length P → (o : Event → Bool) → Fair s P p o
     → Lowered s P (set P p (lowered o (history s p) (getD P p 0)))
-lower-fair s P p wide o fair = record { down = λ q lq. down q lq (decEq q p); over = over }
+lower-fair s P p wide o fair = record { down = λ q lq. down q lq (ℕ-discrete q p); over = over }
   where
     h : History
     h = history s p
@@ -129,7 +121,7 @@ lower-fair s P p wide o fair = record { down = λ q lq. down q lq (decEq q p); o
     down q lq (no ne) = rw (getD-set-other P p q v 0 ne) (le-refl (getD P q 0))
 
     over : (mask : ℕ) → Over mask s P → Over mask s (set P p v)
-    over mask O = record { permit = λ q lq. permit q lq (decEq q p); latest = λ other A c q lq. latest other A c q lq (decEq q p) }
+    over mask O = record { permit = λ q lq. permit q lq (ℕ-discrete q p); latest = λ other A c q lq. latest other A c q lq (ℕ-discrete q p) }
       where
         permit : (q : ℕ) → q < length s → Dec (q ≡ p) → permitted (failed mask q) (history s q) (getD (set P p v) q 0) ≡ true
         permit q lq (yes z) =

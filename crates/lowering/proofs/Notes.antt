@@ -6,6 +6,7 @@ use mathlib.Core.List.{List, [], _∷_}
 use Prim.Native.Nat.{ℕ, suc, _+_, _*_, _≤_, _<_}
 use native.Mathlib.Nat.{mod-eq-of-lt, mul-le-mul-right}
 use native.Mathlib.Omega.{arith}
+use native.Mathlib.Decide.{ℕ-discrete}
 use lib.Dec.{leb, eqb}
 use lib.ListN.{length, getD, set, length-set}
 use lib.Seq.{getD-set-same, getD-set-other}
@@ -20,9 +21,11 @@ use Rattle.records.proofs.Histories.{Each, each-older}
 use Rattle.records.proofs.Cuts.{upto-is-older}
 use Rattle.tables.proofs.Laid.{Law, Legal, sends-length}
 use Rattle.cuts.specs.Tests.{noteIndex, unsent, noteOf, noted}
-use Rattle.lowering.specs.Lowering.{Laid, Counted, alwaysOrphan, goes, Noted, Blank}
-use Rattle.lowering.proofs.Cuts.{decEq, always-fair}
-use Rattle.lowering.proofs.Steps.{lawful, section, view, Written, step}
+use Rattle.lowering.specs.Lowering.{alwaysOrphan, goes, Noted, Blank}
+use Rattle.tops.specs.Tops.{Laid, Counted}
+use Rattle.lowering.proofs.Cuts.{always-fair}
+use Rattle.lowering.proofs.Steps.{Written, step}
+use Rattle.tops.proofs.Starts.{lawful, section, view}
 
 module _ (E q : ℕ) (to : List ℕ) where
   pub noted-length : (h : History) → length (noted E q h to) ≡ length to
@@ -50,7 +53,7 @@ module _ (E q : ℕ) (to : List ℕ) where
       → getD (noted E q h to) (q * E + k) 0 ≡ goes h k
   noted-at n p few room blank [] legal short k pos le = rw (lt-leb k 0 pos) (blank (q * E + k) (omega arith) (omega arith))
   noted-at n p few room blank (e ∷ h) legal short k pos le =
-      go (decEq k (sends h + 1)) (noted-at n p few room blank h (legal .1) (omega arith) k pos le)
+      go (ℕ-discrete k (sends h + 1)) (noted-at n p few room blank h (legal .1) (omega arith) k pos le)
     where
       u : List ℕ
       u = noted E q h to
@@ -91,7 +94,7 @@ pub noted-next : (s : State) (n E p : ℕ) (to : List ℕ) → n ≤ 16 → p * 
     → (length u ≡ length to) × Noted s E u (p + 1) × Blank u ((p + 1) * E)
 noted-next s n E p to few room N B legal short {u} e = rw e (
   noted-length E p to h,
-  λ q k lt pos le. at q k lt pos le (decEq q p),
+  λ q k lt pos le. at q k lt pos le (ℕ-discrete q p),
   λ i a b.
       let m = noted-length E p to h in
       noted-other E p to h i (inr (omega arith)) ∙ B i (omega arith) (omega arith),

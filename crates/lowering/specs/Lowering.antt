@@ -1,33 +1,15 @@
 -- What holds of a cut while it is lowered to the failure line.
 use mathlib.Core.Path.{_≡_}
-use mathlib.Core.Bool.{Bool, true, false, not, cond}
+use mathlib.Core.Bool.{Bool, false, not, cond}
 use mathlib.Core.List.{List}
 use Prim.Native.Nat.{ℕ, _+_, _*_, _≤_, _<_}
 use lib.Dec.{leb}
 use lib.ListN.{length, getD}
-use Rattle.xdr.specs.Words.{word}
 use Rattle.rules.specs.Records.{Event, basic, forced, sent, received, History, State, history, sends, destination, hasSend}
-use Rattle.rules.specs.Lines.{part, NoOrphan, failed, permitted, Permitted}
+use Rattle.rules.specs.Lines.{part}
 use Rattle.rules.specs.FailureLine.{any}
-use Rattle.rules.specs.Calls.{first, tableRows}
 use Rattle.cuts.specs.Tests.{late}
-
--- the table t meets none of its own rows, and has these dimensions, which then are within their ranges
-abbrev pub Laid : List ℕ → ℕ → ℕ → Type 0
-Laid t n E = (first (tableRows t) ≡ 0) × (n ≡ word t 0) × (E ≡ word t 1) × (n ≤ 16) × (E ≤ 1024)
-
--- sixteen positions, those of the processes within their records, with the count of sends before each
-pub record Counted (s : State) (position counts : List ℕ) : Type 0 where
-  pub positions : length position ≡ 16
-  pub sixteen : length counts ≡ 16
-  pub within : (p : ℕ) → p < length s → getD position p 0 ≤ length (history s p)
-  pub counted : (p : ℕ) → p < length s → getD counts p 0 ≡ sends (part s position p)
-
--- the positions are permitted, and no permitted cut without orphans is later at any process
-pub record Over (mask : ℕ) (s : State) (position : List ℕ) : Type 0 where
-  pub permit : (p : ℕ) → p < length s → permitted (failed mask p) (history s p) (getD position p 0) ≡ true
-  pub latest : (other : List ℕ) → Permitted mask s other → NoOrphan s other → (p : ℕ) → p < length s
-      → getD other p 0 ≤ getD position p 0
+use Rattle.tops.specs.Tops.{Counted, Over}
 
 -- lowered from one cut to another, and not past the failure line, whichever processes failed
 pub record Lowered (s : State) (from to : List ℕ) : Type 0 where

@@ -1,7 +1,7 @@
 pub mod Histories
 pub mod Rows
 pub mod Steps
-pub mod Made
+pub mod Sound
 pub mod NumberedLines
 pub mod Cuts
 pub mod FailureLines

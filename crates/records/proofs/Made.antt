@@ -91,7 +91,8 @@ total-le (x ∷ s) E h =
 
 -- ---- the invariant
 
-pub record Made (n E : ℕ) (s : State) : Type 0 where
+-- what every state has that a list of calls makes
+pub record Sound (n E : ℕ) (s : State) : Type 0 where
   pub size : length s ≡ n
   pub short : (p : ℕ) → length (history s p) ≤ E
   pub rising : (p : ℕ) → Rising (history s p)
@@ -127,7 +128,7 @@ grown-number h (receipt q k) c t a b = go (forces h c)
     go true = omega arith
     go false = omega arith
 
-carries-le : (n E : ℕ) (s : State) → Made n E s → (call : Call) → carries s call ≤ total s
+carries-le : (n E : ℕ) (s : State) → Sound n E s → (call : Call) → carries s call ≤ total s
 carries-le n E s M checkpoint = zero-le
 carries-le n E s M (send q) = zero-le
 carries-le n E s M (receipt q k) = le-trans (carried-le (history s q) k (M .rising q)) (M .bounded q)
@@ -140,7 +141,7 @@ message-held n E s p (receipt r j) A q k e =
     let b : j ≡ k = cc in
     rw (← a, ← b) (A .message .2)
 
-pub made-step : (n E : ℕ) (s : State) (p : ℕ) (call : Call) → Made n E s → Accepted n E s p call → Made n E (stepped s p call)
+pub made-step : (n E : ℕ) (s : State) (p : ℕ) (call : Call) → Sound n E s → Accepted n E s p call → Sound n E (stepped s p call)
 made-step n E s p call M A =
     let w = A .within in
     let z = M .size in
@@ -167,7 +168,7 @@ made-step n E s p call M A =
           (λ r ne. let a = M .bounded r in omega arith);
     }
 
-pub made-fresh : (n E : ℕ) → Made n E (fresh n)
+pub made-fresh : (n E : ℕ) → Sound n E (fresh n)
 made-fresh n E =
     record {
       size = length-replicate n [];
@@ -178,15 +179,15 @@ made-fresh n E =
       bounded = λ p. rw (history-fresh n p) zero-le;
     }
 
-pub made-after : (n E : ℕ) (s : State) (e : Entry) → Made n E s → Made n E (after n E s e)
-made-after n E s e M = after-keeps (Made n E) n E (made-step n E) s e M
+pub made-after : (n E : ℕ) (s : State) (e : Entry) → Sound n E s → Sound n E (after n E s e)
+made-after n E s e M = after-keeps (Sound n E) n E (made-step n E) s e M
 
-pub made : (n E : ℕ) (l : List Entry) → Made n E (run n E (fresh n) l)
-made n E l = run-keeps (Made n E) n E (made-step n E) (fresh n) l (made-fresh n E)
+pub made : (n E : ℕ) (l : List Entry) → Sound n E (run n E (fresh n) l)
+made n E l = run-keeps (Sound n E) n E (made-step n E) (fresh n) l (made-fresh n E)
 
 -- ---- no number is above n × E, and row 10 is never met
 
-pub number-le : (n E : ℕ) (s : State) → Made n E s → (p : ℕ) → number (history s p) ≤ n * E
+pub number-le : (n E : ℕ) (s : State) → Sound n E s → (p : ℕ) → number (history s p) ≤ n * E
 number-le n E s M p = le-trans (M .bounded p) (subst (λ (m : ℕ). total s ≤ m * E) (M .size) (total-le s E (M .short)))
 
 -- a row with the number r is the first that is met
@@ -209,7 +210,7 @@ not-there [] l m = m
 not-there (row r b ∷ rs) l (inl y) = l .0 (y .1)
 not-there (row r b ∷ rs) l (inr y) = not-there rs (l .1) (y .1)
 
-pub never-ten : (n E : ℕ) (s : State) (e : Entry) → Made n E s → check n E s e ≢ 10
+pub never-ten : (n E : ℕ) (s : State) (e : Entry) → Sound n E s → check n E s e ≢ 10
 unfolding check
 never-ten n E s (entry p checkpoint area) M x = step (first-meets 9 (stepRows n E s p checkpoint (length area)) x)
   where

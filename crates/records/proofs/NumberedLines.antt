@@ -14,7 +14,7 @@ use Rattle.rules.specs.Lines.{upto, part, orphan, NoOrphan, atLeast, orElse, fi
 use Rattle.basics.proofs.Older.{Older, same, newer, older-length}
 use Rattle.basics.proofs.Booleans.{Test, passes, fails, test, or-false}
 use Rattle.records.proofs.Histories.{Held, holds-held, held-holds, holds-older, send-of, each-older, Rising}
-use Rattle.records.proofs.Made.{Made, Source, Sourced}
+use Rattle.records.proofs.Made.{Sound, Source, Sourced}
 
 -- ---- positions and older parts
 
@@ -134,7 +134,7 @@ line-keeps N {g} (newer {e = x} {g = y} o) e = go (test (reached N y)) (line-kee
 
 -- ---- no orphan
 
-module _ (n E : ℕ) (s : State) (M : Made n E s) (N : ℕ) where
+module _ (n E : ℕ) (s : State) (M : Sound n E s) (N : ℕ) where
   -- the send of a message that carries less than N is in the line
   send-kept : (p q k c : ℕ) → hasSend (history s q) p k ≡ true → carried (history s q) k ≤ c → c < N → hasSend (lineOf N (history s q)) p k ≡ true
   send-kept p q k c e le lt =

@@ -1,15 +1,14 @@
 -- Where a scan ends: what it has found among the records that it read is what is there among all.
 use mathlib.Core.Path.{_≡_, refl, sym, ap, _∙_}
-use mathlib.Core.Bool.{Bool, true, false, not, cond, _&&_, _||_, and-false, and-eq-true-iff}
+use mathlib.Core.Bool.{true, false, not, cond, _&&_, _||_, and-false, and-eq-true-iff}
 use mathlib.Core.List.{[], _∷_}
-use Prim.Native.Nat.{ℕ, zero, suc, _+_, _*_, _≤_, _<_, zero-le}
+use Prim.Native.Nat.{ℕ, suc, _+_, _*_, _≤_, _<_, zero-le}
 use native.Mathlib.Numerals.{add-one}
 use native.Mathlib.Omega.{arith}
-use native.Mathlib.Decide.{decLt}
 use lib.Dec.{eqb, leb, ltb}
 use lib.ListN.{length}
 use borrow.Author.Tests.{ltb-true, lt-ltb, le-leb, lt-leb, leb-false, eqb-true, eqb-false, eq-eqb, ne-eqb}
-use Rattle.rules.specs.Records.{Event, basic, forced, sent, received, History, number, sends, carried, destination, hasReceipt}
+use Rattle.rules.specs.Records.{Event, basic, forced, sent, received, History, number, sends, hasReceipt}
 use Rattle.rules.specs.Table.{width, eventAt, recordsAt}
 use Rattle.rules.specs.Lines.{atLeast, numbered}
 use Rattle.scans.specs.Sends.{Answers}
@@ -18,16 +17,7 @@ use Rattle.basics.proofs.Booleans.{Test, passes, fails, test, or-false, or-righ
 use Rattle.records.proofs.Histories.{sends-older, carried-older, destination-older}
 use Rattle.records.proofs.NumberedLines.{reached, numbered-cons, numbered-le}
 use Rattle.tables.proofs.WellLaid.{records-length}
-use Rattle.tables.proofs.Scans.{least-event, sends-next, carried-next, destination-next, receipt-next}
-
--- the first records of a section are an older part of it
-records-older : (w : ℕ → ℕ) (at i c : ℕ) → i ≤ c → Older (recordsAt w at i) (recordsAt w at c)
-records-older w at i zero l = let z : i ≡ 0 = omega arith in rw z same
-records-older w at i (suc c) l = go (decLt c i) (records-older w at i c)
-  where
-    go : Dec (c < i) → (i ≤ c → Older (recordsAt w at i) (recordsAt w at c)) → Older (recordsAt w at i) (recordsAt w at (suc c))
-    go (yes k) f = let z : i ≡ suc c = omega arith in rw z same
-    go (no k) f = newer (f (omega arith))
+use Rattle.tables.proofs.Scans.{least-event, sends-next, carried-next, destination-next, receipt-next, first-older}
 
 -- ---- the position of the first checkpoint with number N or more
 
@@ -49,7 +39,7 @@ module _ (N : ℕ) where
     pub position-initial : (c : ℕ) → N ≡ 0 → 0 ≡ numbered N (recordsAt w at c)
     position-initial c z =
         let l = numbered-le N [] in
-        let e = numbered-older (records-older w at 0 c zero-le) (le-leb N 0 (omega arith)) in
+        let e = numbered-older (first-older w at 0 c zero-le) (le-leb N 0 (omega arith)) in
         omega arith
 
     pub position-none : {i c : ℕ} → i ≡ c → reached N (recordsAt w at i) ≡ false → c ≡ numbered N (recordsAt w at c)
@@ -83,7 +73,7 @@ module _ (N : ℕ) where
               let least : atLeast N event ≡ true = least-event N w here ∙ rw (← x, ← y, f, le-leb N a le) in
               let t : reached N (recordsAt w at (suc i)) ≡ true = rw least in
               let n : suc i ≡ numbered N (recordsAt w at (suc i)) = rw (numbered-cons N event (recordsAt w at i), none, records-length w at i) in
-              add-one i ∙ n ∙ sym (numbered-older (records-older w at (suc i) c (omega arith)) t)
+              add-one i ∙ n ∙ sym (numbered-older (first-older w at (suc i) c (omega arith)) t)
 
 -- ---- send k
 
@@ -111,7 +101,7 @@ module _ (w : ℕ → ℕ) (at i k : ℕ) {kind a s n m : ℕ} (x : kind ≡ w (
 
   pub send-found : {c : ℕ} → i < c → (eqb kind 3 && eqb n k) ≡ true → Answers k (recordsAt w at c) true m a
   send-found {c} l t =
-      let o = records-older w at (i + 1) c (omega arith) in
+      let o = first-older w at (i + 1) c (omega arith) in
       let v = after in
       let j = eqb-true n k (and-eq-true-iff (eqb kind 3) (eqb n k) .0 t .1) in
       let d = eqb-true k (s + 1) (and-eq-true-iff (eqb kind 3) (eqb k (s + 1)) .0 (sym hit ∙ t) .1) in
@@ -160,4 +150,4 @@ module _ (q k : ℕ) where
     receipt-after = sym (receipt-next w at i x y q k z (sym none))
 
     pub receipt-found : {c : ℕ} → i < c → (eqb kind 4 && eqb a q && eqb b k) ≡ true → true ≡ hasReceipt (recordsAt w at c) q k
-    receipt-found {c} l t = sym (receipt-older (records-older w at (i + 1) c (omega arith)) (receipt-after ∙ t))
+    receipt-found {c} l t = sym (receipt-older (first-older w at (i + 1) c (omega arith)) (receipt-after ∙ t))

@@ -13,7 +13,7 @@ use Rattle.xdr.specs.Words.{word}
 use Rattle.rules.specs.Table.{heading, width, recordWords, usedWords, headingWords, sectionWords, sectionsWords, layout, eventAt, recordsAt, start, sectionAt, sectionsFrom, recordOkAt, recordsOk, zerosAt, sectionOk, sectionsOk, decoded, size}
 use Rattle.basics.proofs.Older.{Older, same, newer, older-trans}
 use Rattle.records.proofs.Histories.{holds-held, sends-older, Each, each-older, rising-older}
-use Rattle.records.proofs.Made.{Source, Name, Made, number-le}
+use Rattle.records.proofs.Made.{Source, Name, Sound, number-le}
 use Rattle.tables.proofs.Places.{At, at-word, at-left, at-right}
 use Rattle.xdr.proofs.Words.{Small, small-append, small-at, small-zeros, word-bytes, bytes-length}
 use Rattle.tables.proofs.Ranges.{InRange, product}
@@ -36,7 +36,7 @@ sends-length (forced m ∷ h) = let r = sends-length h in omega arith
 sends-length (sent q ∷ h) = let r = sends-length h in omega arith
 sends-length (received q k ∷ h) = let r = sends-length h in omega arith
 
-module _ (n E : ℕ) (s : State) (M : Made n E s) where
+module _ (n E : ℕ) (s : State) (M : Sound n E s) where
   number-part : (p : ℕ) (h : History) → Older h (history s p) → number h ≤ n * E
   number-part p h o = le-trans (rising-older o (M .rising p)) (number-le n E s M p)
 
@@ -254,7 +254,7 @@ small-sections n E a b c (h ∷ s) p short num L =
 
 -- ---- the table of a made state
 
-module _ (n E : ℕ) (d : InRange n E) (s : State) (M : Made n E s) where
+module _ (n E : ℕ) (d : InRange n E) (s : State) (M : Sound n E s) where
   abbrev words : List ℕ
   words = n ∷ E ∷ sectionsWords E s
 

@@ -1,17 +1,23 @@
 -- What one more record does to what a scan has found. A scan reads a record's words, and no kind but 3 and 4 is told apart.
-use mathlib.Core.Path.{_≡_, refl, sym, _∙_, subst}
+use mathlib.Core.Path.{_≡_, refl, sym, _∙_, subst, ap}
 use mathlib.Core.Bool.{Bool, true, false, not, cond, _&&_, _||_}
 use mathlib.Core.List.{_∷_}
-use Prim.Native.Nat.{ℕ, suc, _+_, _*_, _≤_}
+use Prim.Native.Nat.{ℕ, zero, suc, _+_, _*_, _≤_, _<_}
 use native.Mathlib.Numerals.{add-one}
+use native.Mathlib.Omega.{arith}
+use native.Mathlib.Decide.{decLt}
 use lib.Dec.{eqb, leb}
-use borrow.Author.Tests.{eqb-true}
+use lib.ListN.{length}
+use borrow.Author.Tests.{eqb-true, lt-leb, le-leb}
 use Rattle.rules.specs.Records.{Event, basic, forced, sent, received, History, number, sends, carried, destination, hasReceipt}
 use Rattle.rules.specs.Table.{width, eventAt, recordsAt}
-use Rattle.rules.specs.Lines.{atLeast}
+use Rattle.rules.specs.Lines.{atLeast, upto}
 use Rattle.basics.proofs.Booleans.{Test, passes, fails, test, either, both}
 use Rattle.tables.proofs.Laid.{sends-length}
 use Rattle.tables.proofs.WellLaid.{records-length}
+use Rattle.basics.proofs.Older.{Older, older-length}
+use Rattle.records.proofs.Cuts.{upto-is-older}
+use Rattle.records.proofs.NumberedLines.{upto-older}
 
 -- a value that is the same for basic and forced checkpoints
 pub event : {A : Type 0} (f : Event → A) (w : ℕ → ℕ) (i : ℕ) → f (forced (w (i + 1))) ≡ f (basic (w (i + 1)))
@@ -121,3 +127,29 @@ module _ (w : ℕ → ℕ) (at i : ℕ) where
 -- no section has more sends than records
 pub sends-at-most : (w : ℕ → ℕ) (at i : ℕ) → sends (recordsAt w at i) ≤ i
 sends-at-most w at i = subst (λ (x : ℕ). sends (recordsAt w at i) ≤ x) (records-length w at i) (sends-length (recordsAt w at i))
+
+-- ---- the first i of some records
+
+module _ (w : ℕ → ℕ) (at : ℕ) where
+  pub records-upto : (i c : ℕ) → i ≤ c → upto i (recordsAt w at c) ≡ recordsAt w at i
+  records-upto i zero le = ap (recordsAt w at) (let e : 0 ≡ i = omega arith in e)
+  records-upto i (suc c) le = go (decLt i (suc c)) (records-upto i c)
+    where
+      h : History
+      h = recordsAt w at c
+
+      go : Dec (i < suc c) → (i ≤ c → upto i h ≡ recordsAt w at i) → upto i (recordsAt w at (suc c)) ≡ recordsAt w at i
+      go (yes l) f = let n = records-length w at c in rw (lt-leb (suc (length h)) i (omega arith)) (f (omega arith))
+      go (no l) f =
+          let n = records-length w at c in
+          rw (le-leb (suc (length h)) i (omega arith)) (ap (recordsAt w at) (let e : suc c ≡ i = omega arith in e))
+
+  -- they are an older part, and every older part is some first ones
+  pub first-older : (i c : ℕ) → i ≤ c → Older (recordsAt w at i) (recordsAt w at c)
+  first-older i c le = subst (λ (h : History). Older h (recordsAt w at c)) (records-upto i c le) (upto-is-older i (recordsAt w at c))
+
+  pub older-first : (c : ℕ) {g : History} → Older g (recordsAt w at c) → g ≡ recordsAt w at (length g)
+  older-first c {g} o =
+      let n = records-length w at c in
+      let l = older-length o in
+      sym (upto-older o) ∙ records-upto (length g) c (omega arith)

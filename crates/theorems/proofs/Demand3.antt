@@ -15,10 +15,10 @@ use Rattle.rules.specs.Table.{inRange, size, layout, fresh, decoded, wellLaid}
 use Rattle.rules.specs.Steps.{stepped}
 use Rattle.rules.specs.Lines.{numbered, numberedLine}
 use Rattle.rules.specs.Calls.{Outcome, outcome, row, first, tableRows, lineRows, stepRows, answer, judged, freshOn, stepOn, lineOn}
-use Rattle.rules.specs.Lists.{Entry, entry, entryOn, outcomesOn, tableAfter, check, accepts, after, run, said, saidAll}
+use Rattle.rules.specs.Lists.{Entry, entry, entryOn, outcomesOn, tableAfter, MadeByCalls, check, accepts, after, run, said, saidAll}
 use Rattle.theorems.specs.TwoLists.{AfterList, Both, TwoLists}
 use Rattle.records.proofs.Rows.{NoneMet, none-met, first-append, first-none, judged-returned}
-use Rattle.records.proofs.Made.{Made, made, made-after, made-fresh, never-ten}
+use Rattle.records.proofs.Made.{Sound, made, made-after, made-fresh, never-ten}
 use Rattle.records.proofs.NumberedLines.{numbered-le, line-clean}
 use Rattle.tables.proofs.Laid.{layout-n, layout-E, layout-length, layout-ok, layout-decoded}
 use Rattle.tables.proofs.Ranges.{InRange, in-range}
@@ -27,7 +27,7 @@ use Rattle.theorems.proofs.SameCalls.{same-state}
 -- ---- calls on the table of a made state
 
 module _ (n E : ℕ) (d : InRange n E) where
-  module _ (s : State) (M : Made n E s) where
+  module _ (s : State) (M : Sound n E s) where
     unmet-rows : NoneMet (tableRows (layout n E s))
     unfolding wellLaid
     unmet-rows =
@@ -78,13 +78,13 @@ module _ (n E : ℕ) (d : InRange n E) where
         ∙ rw (layout-n n E d s M, layout-decoded n E d s M, eq-eqb (length area) (4 * n) l) (
         ap (outcome 0 t) (whole-put area (numberedLine N s) (l ∙ ap (λ (k : ℕ). 4 * k) (sym many))))
 
-  outcomes-said : (l : List Entry) (s : State) → Made n E s → outcomesOn (layout n E s) l ≡ saidAll n E s l
+  outcomes-said : (l : List Entry) (s : State) → Sound n E s → outcomesOn (layout n E s) l ≡ saidAll n E s l
   outcomes-said [] s M = refl
   outcomes-said (e ∷ l) s M =
       ap₂ (λ (o : Outcome) (os : List Outcome). o ∷ os) (entry-said s M e)
       (ap (λ (t : List ℕ). outcomesOn t l) (entry-table s M e) ∙ outcomes-said l (after n E s e) (made-after n E s e M))
 
-  table-run : (l : List Entry) (s : State) → Made n E s → tableAfter (layout n E s) l ≡ layout n E (run n E s l)
+  table-run : (l : List Entry) (s : State) → Sound n E s → tableAfter (layout n E s) l ≡ layout n E (run n E s l)
   table-run [] s M = refl
   table-run (e ∷ l) s M = ap (λ (t : List ℕ). tableAfter t l) (entry-table s M e) ∙ table-run l (after n E s e) (made-after n E s e M)
 
@@ -137,6 +137,21 @@ fresh-accepted lent n E r =
     let z : first rows ≡ 0 = sym (judged-returned (first rows) lent [] (layout n E (fresh n)) []) ∙ r in
     let m = none-met rows tt z in
     (in-range n E (not-false (inRange n E) (m .0)), rw (eq-eqb (first rows) 0 z))
+
+-- a table made by accepted calls holds a state that a list of calls makes
+pub record Holds (n E : ℕ) (t : List ℕ) : Type 0 where
+  pub state : State
+  pub sound : Sound n E state
+  pub is : t ≡ layout n E state
+
+pub made-holds : (n E : ℕ) (t : List ℕ) → MadeByCalls n E t → Holds n E t
+made-holds n E t M =
+    let a = fresh-accepted (M .lent) n E (M .accepted) in
+    record {
+      state = run n E (fresh n) (M .list);
+      sound = made n E (M .list);
+      is = sym (M .leaves) ∙ ap (λ (x : List ℕ). tableAfter x (M .list)) (a .1) ∙ after-list n E (a .0) (M .list) .left;
+    }
 
 pub two-lists : TwoLists
 two-lists n E lent₁ lent₂ l₁ l₂ r₁ r₂ =

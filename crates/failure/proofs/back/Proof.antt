@@ -2,7 +2,7 @@ use Prim.Native.Nat.{_-_, _≤_}
 use mathlib.Core.Path.{_≡_, refl, ap, _∙_}
 use native.Mathlib.Omega.{arith}
 use borrow.Author.Needs.{needs}
-use Rattle.lowering.proofs.Steps.{section}
+use Rattle.tops.proofs.Starts.{section}
 use Rattle.rules.specs.Lines.{maskBelow}
 use Rattle.rules.specs.Table.{decoded}
 use Rattle.failure.proofs.FailureLine.{below, Found, found-next}

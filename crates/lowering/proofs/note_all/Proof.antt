@@ -7,7 +7,7 @@ use borrow.Author.Needs.{needs}
 use Rattle.lowering.specs.Lowering.{Noted, Blank}
 use Rattle.rules.specs.Table.{decoded}
 use Rattle.lowering.proofs.Notes.{note-turn}
-use Rattle.lowering.proofs.Steps.{section}
+use Rattle.tops.proofs.Starts.{section}
 use Rattle.lowering.proofs.note_all.Statement.{statement}
 use Rattle.lowering.proofs.note_all.Tie as tie
 

@@ -6,7 +6,8 @@ use Rattle.lowering.specs.Lowering.{NoneAlways, Pruned}
 use Rattle.rules.specs.Table.{decoded}
 use Rattle.lowering.proofs.Cuts.{lowered-refl}
 use Rattle.lowering.proofs.Notes.{always-step}
-use Rattle.lowering.proofs.Steps.{view, pruned-next}
+use Rattle.lowering.proofs.Steps.{pruned-next}
+use Rattle.tops.proofs.Starts.{view}
 use Rattle.lowering.proofs.prune.Statement.{statement}
 use Rattle.lowering.proofs.prune.Tie as tie
 

@@ -4,7 +4,8 @@ use native.Mathlib.Omega.{arith}
 use borrow.Author.Needs.{needs}
 use Rattle.rules.specs.Table.{decoded}
 use Rattle.lowering.proofs.Cuts.{total}
-use Rattle.lowering.proofs.Steps.{view, Quiet, quiet-start, quiet-done, quiet-next, quiet-less, late-step}
+use Rattle.lowering.proofs.Steps.{Quiet, quiet-start, quiet-done, quiet-next, quiet-less, late-step}
+use Rattle.tops.proofs.Starts.{view}
 use Rattle.lowering.proofs.settled.Statement.{statement}
 use Rattle.lowering.proofs.settled.Tie as tie
 

@@ -5,9 +5,9 @@ use borrow.Author.Needs.{needs}
 use Rattle.rules.specs.Records.{sends}
 use Rattle.rules.specs.Table.{heading, recordsAt}
 use Rattle.xdr.specs.Words.{word}
-use Rattle.lowering.proofs.Steps.{section, top-down, top-up}
-use Rattle.lowering.proofs.top.Statement.{statement}
-use Rattle.lowering.proofs.top.Tie as tie
+use Rattle.tops.proofs.Starts.{section, top-down, top-up}
+use Rattle.tops.proofs.top.Statement.{statement}
+use Rattle.tops.proofs.top.Tie as tie
 
 start-requires : tie.Need-start-requires
 start-requires c κs = search needs

@@ -6,9 +6,9 @@ use borrow.Author.Needs.{needs}
 use Rattle.rules.specs.Records.{history}
 use Rattle.rules.specs.Table.{decoded}
 use Rattle.records.proofs.Cuts.{top-le}
-use Rattle.lowering.proofs.Steps.{processes, small-counts, Started, started-next, started-done}
-use Rattle.lowering.proofs.tops.Statement.{statement}
-use Rattle.lowering.proofs.tops.Tie as tie
+use Rattle.tops.proofs.Starts.{processes, small-counts, Started, started-next, started-done}
+use Rattle.tops.proofs.tops.Statement.{statement}
+use Rattle.tops.proofs.tops.Tie as tie
 
 abbrev Inv-loop : tie.InvT-loop
 Inv-loop t n e mask position₀ sends₀ p₀ position sends p =
