@@ -1,7 +1,7 @@
 pub mod Histories
 pub mod Rows
 pub mod Steps
-pub mod Sound
+pub mod Made
 pub mod NumberedLines
 pub mod Cuts
 pub mod FailureLines
