@@ -70,7 +70,7 @@ fn prune(t: &[u8], n: usize, e: usize, cut: Cut, to: &[u8]) -> Cut
     }
 }
 
-// The same; `to` is room for the notes.
+// Every process before its first such receipt, with the notes made first; `to` is room for them.
 fn pruned_with(t: &[u8], n: usize, e: usize, cut: Cut, to: &mut [u8]) -> Cut
     requires { ⌜ Laid (now t) n e × (n * e < length (now to)) × Blank (now to) 0 × Counted (decoded (now t)) (cut .position) (cut .sends) ⌝ }
     ensures { λ r. ⌜ Pruned (decoded (now (t .entry))) (cut .position) (r .position) (r .sends) n ⌝ }
@@ -79,7 +79,7 @@ fn pruned_with(t: &[u8], n: usize, e: usize, cut: Cut, to: &mut [u8]) -> Cut
     prune(t, n, e, cut, &to[..])
 }
 
-// The same. A small table does not pay for the room that the largest needs.
+// Every process before its first such receipt. A small table does not pay for the room that the largest needs.
 pub fn pruned(t: &[u8], n: usize, e: usize, cut: Cut) -> Cut
     requires { ⌜ Laid (now t) n e × Counted (decoded (now t)) (cut .position) (cut .sends) ⌝ }
     ensures { λ r. ⌜ Pruned (decoded (now (t .entry))) (cut .position) (r .position) (r .sends) n ⌝ }

@@ -27,7 +27,7 @@ start E p = 2 + p * (heading + width * E)
 abbrev pub mostWords : ℕ
 mostWords = start 1024 16
 
--- the table's length in bytes
+-- the table's length in bytes, 8 + 12 × n × (E + 1)
 abbrev pub size : ℕ → ℕ → ℕ
 size n E = 8 + 4 * n * (heading + width * E)
 

@@ -12,6 +12,13 @@ use Rattle.rules.specs.FailureLine.{round, rounds, failureLine}
 use Rattle.rules.specs.Calls.{Outcome, areaLength, failureAnswer, answerWords, freshOn, stepOn, lineOn, failedOn}
 use Rattle.rules.specs.Lists.{Entry, entry, outcomesOn, tableAfter}
 
+-- "n = 1, E = 1 gives 32; n = 8, E = 256 gives 24,680; n = 16, E = 1,024 gives 196,808"
+abbrev lengths : List ℕ
+lengths = size 1 1 ∷ size 8 256 ∷ size 16 1024 ∷ []
+
+pub stated-lengths : lengths ≡ 32 ∷ 24680 ∷ 196808 ∷ []
+stated-lengths = same-equal lengths (32 ∷ 24680 ∷ 196808 ∷ []) refl
+
 -- the table that a fresh call leaves, whatever the bytes were
 abbrev freshTable : ℕ → ℕ → List ℕ
 freshTable n E = freshOn (replicate (size n E) 255) n E .table
