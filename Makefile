@@ -12,6 +12,9 @@ $(error PREFIX is to be one path without spaces)
 endif
 into = $(DESTDIR)$(abspath $(PREFIX))
 
+# what is proved, and by what: the archive and the program are made anew when any of it is newer
+sources = $(shell find crates.txt crates -name must-fail -prune -o -type f -print) $(shell command -v rt)
+
 .PHONY: run program run-c run-host lib install uninstall fuzz sizes bench test clean
 
 # runs the text program on a file of calls and prints calls and answers side by side; CALLS=FILE names another file
@@ -21,9 +24,12 @@ run: program
 	@tr -d '\r' < target/answers.csv | paste target/calls.csv - | awk -F '\t' '{ printf "%-20s %s\n", $$1, $$2 }'
 
 # proves the text program and writes target/bin/ckpt; the first time this takes some minutes
-program:
+program: target/bin/ckpt
+
+target/bin/ckpt: $(sources)
 	@mkdir -p target
 	@rt check ckpt > target/program.log 2>&1 || { cat target/program.log; exit 1; }
+	@touch $@
 
 # runs the worked controller of document 01 from C
 run-c: target/worked
@@ -34,11 +40,14 @@ run-host: target/host
 	@./target/host
 
 # proves the engine and writes its archive
-lib:
+lib: $(LIB)
+
+$(LIB): $(sources)
 	@mkdir -p target
 	@rt staticlib engine > target/lib.log 2>&1 || { cat target/lib.log; exit 1; }
+	@touch $@
 
-target/worked target/host: target/%: examples/%.c include/ckpt.h lib
+target/worked target/host: target/%: examples/%.c include/ckpt.h $(LIB)
 	@$(CC) $(CFLAGS) -Iinclude -o $@ $< $(LIB)
 
 # installs header, archive and pkg-config file below PREFIX

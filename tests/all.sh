@@ -26,6 +26,9 @@ counted() {
     fi
 }
 
+# Must-fail edits are tried in groups that wait for their slowest, so that a group of four leaves two cores less idle than one of two.
+export RT_JOBS=${RT_JOBS:-4}
+
 counted rt ci
 [ "$failed" -gt 0 ] || counted tests/run.sh
 
