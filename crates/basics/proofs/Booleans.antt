@@ -24,6 +24,12 @@ and-left a b e = and-eq-true-iff a b .0 e .0
 pub and-right : (a b : Bool) → (a && b) ≡ true → b ≡ true
 and-right a b e = and-eq-true-iff a b .0 e .1
 
+pub false-left : (x y : Bool) → x ≡ false → (x && y) ≡ false
+false-left x y e = rw e
+
+pub false-right : (x y : Bool) → y ≡ false → (x && y) ≡ false
+false-right x y e = rw e (and-false x)
+
 pub or-false : (a b : Bool) → (a || b) ≡ false → (a ≡ false) × (b ≡ false)
 or-false true b e = clash true refl e
 or-false false b e = (refl, e)

@@ -2,7 +2,7 @@
 use mathlib.Core.Path.{_≡_, refl, _∙_, sym, ap, subst}
 use mathlib.Core.Bool.{Bool, true, _&&_, and-eq-true-iff}
 use mathlib.Core.List.{List, [], _∷_}
-use Prim.Native.Nat.{ℕ, zero, suc, _+_, _^_, _≤_, _<_}
+use Prim.Native.Nat.{ℕ, zero, suc, _+_, _^_, _<_}
 use native.Mathlib.Omega.{arith}
 use native.Mathlib.Nat.{pow-le-pow-right, not-suc-le-zero, le-of-suc-le-suc, zero-add, add-zero, suc-add, add-suc}
 use lib.Dec.{eqb}

@@ -1,5 +1,5 @@
 -- The rows of a failure line, the mask of the processes that go back, and the outcome from its parts.
-use mathlib.Core.Path.{_≡_, refl, sym, ap, _∙_, subst}
+use mathlib.Core.Path.{_≡_, refl, sym, ap, _∙_}
 use mathlib.Core.Logic.{_≢_}
 use mathlib.Core.Bool.{cond, Bool}
 use mathlib.Core.List.{List, [], _∷_, _++_}
@@ -11,10 +11,10 @@ use native.Mathlib.Decide.{decLt}
 use lib.Dec.{ltb, eqb}
 use lib.ListN.{length, getD, length-append, List·getD-append}
 use lib.Seq.{getD-append-add}
-use lib.Count.{ones, ones-le}
+use lib.Count.{ones}
 use borrow.Author.Tests.{eqb-true, not-false, eq-eqb, ne-eqb, le-leb, lt-leb}
-use Rattle.xdr.specs.Words.{word, bytes, putWord, putEach, putWords}
-use Rattle.xdr.proofs.Words.{Bytes, Small, small-append}
+use Rattle.xdr.specs.Words.{word, putWord, putEach, putWords}
+use Rattle.xdr.proofs.Words.{Bytes}
 use Rattle.xdr.proofs.Puts.{each-same, each-put}
 use Rattle.rules.specs.Records.{State, history}
 use Rattle.rules.specs.Table.{start, decoded}

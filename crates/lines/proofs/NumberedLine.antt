@@ -1,23 +1,21 @@
 -- The rows of a numbered line, and its outcome from its parts.
 use mathlib.Core.Path.{_≡_, refl, sym, ap, _∙_}
 use mathlib.Core.Logic.{_≢_}
-use mathlib.Core.List.{List, [], _∷_, _++_}
-use Prim.Native.Nat.{ℕ, suc, _+_, _*_, _≤_, _<_}
-use native.Mathlib.Nat.{le-trans}
+use mathlib.Core.List.{List, _++_}
+use Prim.Native.Nat.{ℕ, _+_, _*_, _≤_, _<_}
 use native.Mathlib.Omega.{arith}
 use lib.Dec.{eqb}
 use lib.ListN.{length, length-map}
 use borrow.Author.Tests.{eqb-true, not-false, eq-eqb, ne-eqb}
 use Rattle.xdr.specs.Words.{word, putEach}
-use Rattle.xdr.proofs.Words.{Bytes, Small}
+use Rattle.xdr.proofs.Words.{Bytes}
 use Rattle.xdr.proofs.Puts.{each-put}
-use Rattle.rules.specs.Records.{State, history}
 use Rattle.rules.specs.Table.{start, sectionAt, decoded}
 use Rattle.rules.specs.Lines.{numbered, numberedLine}
 use Rattle.rules.specs.Calls.{outcome, first, tableRows, lineRows, lineOn}
 use Rattle.records.proofs.Rows.{none-met, split-zero, judged-stop, judged-done, stopped, going}
-use Rattle.records.proofs.NumberedLines.{numbered-le, position}
-use Rattle.tables.proofs.WellLaid.{decoded-at, decoded-length, decoded-short}
+use Rattle.records.proofs.NumberedLines.{position}
+use Rattle.tables.proofs.WellLaid.{decoded-at, decoded-length}
 use Rattle.tables.proofs.OneCall.{Valid, valid}
 use Rattle.tables.proofs.Outcomes.{head}
 

@@ -1,23 +1,18 @@
--- Lines, fields and words, one byte after the other.
+-- The call that a word makes with its fields, and the fields of a line.
 use mathlib.Core.Path.{_≡_, refl, _∙_, sym, ap}
 use mathlib.Core.Bool.{Bool, true, false, cond, _&&_, false≢true, and-false}
 use mathlib.Core.List.{List, [], _∷_, _++_}
 use Prim.Native.Nat.{ℕ, suc, _+_, _-_, _≤_, _<_}
 use native.Mathlib.Omega.{arith}
-use native.Mathlib.Numerals.{add-one}
 use lib.Dec.{leb, eqb}
 use lib.ListN.{length, getD, take, drop, length-drop}
-use lib.Seq.{drop-cons, take-all}
+use lib.Seq.{take-all}
 use borrow.Author.Tests.{lt-ltb, le-ltb, le-leb, lt-leb, ne-eqb}
 use Rattle.rules.specs.Text.{Word, freshWord, checkpointWord, sendWord, receiptWord, lineWord, failedWord, noWord, freshBytes, checkpointBytes, sendBytes, receiptBytes, lineBytes, failedBytes, wordOf, Field, empty, number, Reading, unreadable, Ask, oneNumber, twoNumbers, threeNumbers, asked, fieldOf, fieldsFrom, readLine}
 use Rattle.rules.specs.Compared.{same, same-equal}
 use Rattle.fields.specs.declared.Field as reading
 use Rattle.fields.specs.Fields.{fieldAs, Ends}
 use Rattle.basics.proofs.Booleans.{picks, skips}
-
--- the bytes from i on begin with byte i
-drop-next : (s : List ℕ) (i : ℕ) → i < length s → drop i s ≡ getD s i 0 ∷ drop (i + 1) s
-drop-next s i lt = rw (add-one i) (drop-cons s i 0 lt)
 
 -- ---- calls
 

@@ -1,1 +1,1 @@
-// Laws of records, steps, rows, cuts and lines, with no byte in sight, in proofs/. This crate has no code.
+// Laws of records, steps, rows, cuts and lines, apart from how a table holds them, in proofs/. This crate has no code.

@@ -3,15 +3,15 @@ use mathlib.Core.Path.{_≡_, refl, sym, ap, _∙_}
 use mathlib.Core.Logic.{_≢_}
 use mathlib.Core.Bool.{Bool, true, false, cond}
 use mathlib.Core.List.{List, [], _∷_}
-use Prim.Native.Nat.{ℕ, suc, _+_, _*_, _≤_, _<_}
+use Prim.Native.Nat.{ℕ, suc, _+_, _*_, _≤_}
 use native.Mathlib.Nat.{add-comm}
 use native.Mathlib.Numerals.{add-one}
 use native.Mathlib.Omega.{arith}
 use lib.Dec.{ltb}
 use lib.ListN.{length}
-use Rattle.xdr.specs.Words.{word, bytes, putWord, putWords}
-use Rattle.xdr.proofs.Words.{Bytes, Small}
-use Rattle.xdr.proofs.Puts.{one-put, all-put}
+use Rattle.xdr.specs.Words.{word, putWord, putWords}
+use Rattle.xdr.proofs.Words.{Bytes}
+use Rattle.xdr.proofs.Puts.{one-put}
 use Rattle.rules.specs.Records.{Event, basic, forced, sent, received, History, history, number, sends, carried}
 use Rattle.rules.specs.Table.{heading, width, recordWords, layout, start, decoded}
 use Rattle.rules.specs.Steps.{Call, checkpoint, send, receipt, carries, added, stepped}
@@ -19,7 +19,7 @@ use Rattle.rules.specs.Calls.{outcome, areaLength, needed, answer, stepOn}
 use Rattle.records.proofs.Rows.{judged-stop, judged-done}
 use Rattle.tables.proofs.Stores.{stored}
 use Rattle.tables.proofs.OneCall.{step-stores}
-use Rattle.tables.proofs.Outcomes.{Head, head, carried-low, Passed, passed}
+use Rattle.tables.proofs.Outcomes.{Head, head, Passed, passed}
 use Rattle.rows.specs.Rows.{stepRow}
 use Rattle.store.specs.Added.{withRecord, withForced, withReceipt}
 

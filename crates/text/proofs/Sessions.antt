@@ -1,4 +1,4 @@
--- What a session owes, byte by byte: the line that is held, chunks, the end of the input.
+-- What a session owes after chunks of the input, and at its end.
 use mathlib.Core.Path.{_≡_, refl, _∙_, sym, ap, subst}
 use mathlib.Core.List.{List, [], _∷_, _++_, append-assoc, append-nil}
 use Prim.Native.Nat.{ℕ, _+_, _-_, _*_, _≤_, _<_}

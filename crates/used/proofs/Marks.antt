@@ -13,7 +13,7 @@ use lib.Bits.{bitAnd, bitOr, bitXor, and-block, and-high, and-mask, and-zero-r, 
 use borrow.Author.Tests.{ltb-true, ltb-false, leb-true, leb-false, eqb-true, eqb-false, lt-ltb, le-ltb, le-leb, eq-eqb, ne-eqb}
 use Rattle.rules.specs.Records.{History, number, sends}
 use Rattle.rules.specs.Table.{width, recordsAt, recordOk, recordOkAt, recordsOk}
-use Rattle.basics.proofs.Booleans.{Test, passes, fails, test, and-right, interchange}
+use Rattle.basics.proofs.Booleans.{Test, passes, fails, test, and-right, interchange, false-left, false-right}
 use Rattle.tables.proofs.Ranges.{product}
 use Rattle.tables.proofs.Scans.{number-next, sends-next as sent-next}
 use Rattle.used.specs.Marks.{clear, kindIndex, rooms, floors, counts, masks, above, below, top, rest, upper, wrap, pairOf}
@@ -97,12 +97,6 @@ top-same : (x y : ℕ) → y < top → bitXor x y / top ≡ x / top
 top-same x y l =
     let z : y / top ≡ 0 = omega arith in
     xor-shr x y 31 ∙ rw z (xor-zero-r (x / top))
-
-false-left : (x y : Bool) → x ≡ false → (x && y) ≡ false
-false-left x y e = rw e
-
-false-right : (x y : Bool) → y ≡ false → (x && y) ≡ false
-false-right x y e = rw e (and-false x)
 
 -- a pair marked by one of its bits
 marked-low : (x : ℕ) → x / top % 2 ≡ 1 → clear x ≡ false

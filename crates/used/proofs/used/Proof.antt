@@ -4,9 +4,9 @@ use mathlib.Core.Bool.{true}
 use native.Mathlib.Omega.{arith}
 use borrow.Author.Needs.{needs}
 use Rattle.xdr.specs.Words.{word}
-use Rattle.rules.specs.Records.{number, sends}
+use Rattle.rules.specs.Records.{sends}
 use Rattle.rules.specs.Table.{width, recordsAt, recordsOk}
-use Rattle.used.specs.Marks.{clear, kindIndex, Found}
+use Rattle.used.specs.Marks.{kindIndex, Found}
 use Rattle.used.proofs.Marks.{counts-most, clear-next, found-next}
 use Rattle.used.proofs.used.Statement.{statement}
 use Rattle.used.proofs.used.Tie as tie
