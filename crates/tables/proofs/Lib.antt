@@ -7,3 +7,4 @@ pub mod OneCall
 pub mod Scans
 pub mod Outcomes
 pub mod Fresh
+pub mod Sections

@@ -1,18 +1,14 @@
--- Unused words, and a test that holds of all sections.
+-- Unused words, and the first part of a section's test.
 use mathlib.Core.Path.{_≡_, refl, sym, ap, _∙_}
-use mathlib.Core.Logic.{_≢_}
-use mathlib.Core.Bool.{Bool, true, false, _&&_, and-true, and-false, and-assoc, and-eq-true-iff, false≢true}
+use mathlib.Core.Bool.{Bool, true, false, _&&_, and-true, and-false, and-assoc}
 use Prim.Native.Nat.{ℕ, zero, suc, _+_, _-_, _*_, _/_, _≤_, _<_}
-use native.Mathlib.Nat.{add-zero, mul-le-mul-right}
-use native.Mathlib.Numerals.{add-one}
-use lib.Dec.{eqb, leb}
+use native.Mathlib.Nat.{add-zero}
+use lib.Dec.{eqb}
 use lib.Bits.{bitOr}
 use native.Mathlib.Omega.{arith}
-use native.Mathlib.Decide.{decLt}
-use borrow.Author.Tests.{leb-true, le-leb, lt-leb, eq-eqb, ne-eqb}
-use Rattle.rules.specs.Table.{heading, width, start, zerosAt}
-use Rattle.unused.specs.Rears.{every, rearOk}
-use Rattle.basics.proofs.Booleans.{Test, passes, fails, test}
+use borrow.Author.Tests.{le-leb, lt-leb}
+use Rattle.rules.specs.Table.{heading, width, zerosAt}
+use Rattle.tables.specs.Sections.{rearOk}
 use Rattle.basics.proofs.Bits.{or-zero}
 
 -- ---- unused words
@@ -80,35 +76,3 @@ module _ (e : ℕ) (w : ℕ → ℕ) {at c : ℕ} (h : c ≡ w at) where
 
   pub rear-within : c ≤ e → {z : Bool} → z ≡ zerosAt w (at + heading + width * c) (width * (e - c)) → z ≡ rearOk e w at
   rear-within l hz = rw (hz, ← h, le-leb c e l)
-
--- ---- all sections
-
-pub start-most : (e p n : ℕ) → p < n → start e (p + 1) ≤ start e n
-start-most e p n l = let m = mul-le-mul-right {m = p + 1} {n = n} (heading + width * e) (omega arith) in omega arith
-
-module _ (f : ℕ → Bool) where
-  pub every-at : (m p : ℕ) → p < m → every f m ≡ true → f p ≡ true
-  every-at (suc m) p lt e = go (decLt p m) (λ l. every-at m p l (both .0))
-    where
-      both : (every f m ≡ true) × (f m ≡ true)
-      both = and-eq-true-iff (every f m) (f m) .0 e
-
-      go : Dec (p < m) → (p < m → f p ≡ true) → f p ≡ true
-      go (yes l) g = g l
-      go (no l) g = ap f (let i : p ≡ m = omega arith in i) ∙ both .1
-
-  pub every-next : (p : ℕ) {x : ℕ} → every f p ≡ true → eqb x 0 ≡ f p → x ≡ 0 → every f (p + 1) ≡ true
-  every-next p {x} e g z = rw (add-one p, e) (sym g ∙ eq-eqb x 0 z)
-
-  pub every-not : (m p : ℕ) → p < m → {x : ℕ} → eqb x 0 ≡ f p → x ≢ 0 → false ≡ every f m
-  every-not m p lt {x} g ne = go (test (every f m))
-    where
-      go : Test (every f m) → false ≡ every f m
-      go (fails h) = sym h
-      go (passes h) = absurd (false≢true (sym (ne-eqb x 0 ne) ∙ g ∙ every-at m p lt h))
-
-pub rears-count : (e : ℕ) (w : ℕ → ℕ) (n p : ℕ) → p < n → every (λ q. rearOk e w (start e q)) n ≡ true → w (start e p) ≤ e
-rears-count e w n p lt h =
-    let at = start e p in
-    let ok = every-at (λ q. rearOk e w (start e q)) n p lt h in
-    leb-true (w at) e (and-eq-true-iff (leb (w at) e) (zerosAt w (at + heading + width * w at) (width * (e - w at))) .0 ok .0)

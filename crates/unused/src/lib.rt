@@ -5,7 +5,7 @@ ghost use lib.Dec.{eqb};
 ghost use lib.ListN.{length};
 ghost use Rattle.xdr.specs.Words.{word};
 ghost use Rattle.rules.specs.Table.{heading, width, start as startOf, zerosAt};
-ghost use Rattle.unused.specs.Rears.{every, rearOk};
+ghost use Rattle.tables.specs.Sections.{every, rearOk};
 
 // 0 exactly when the words from word `from` up to word `end`, which are m pairs or one word more, are. The last pair is looked at first, since
 // a loop over pairs leaves out the last of an odd number of words.

@@ -9,7 +9,7 @@ use borrow.Author.Tests.{eqb-true, eqb-false, eq-eqb, ne-eqb}
 use Rattle.rules.specs.Records.{number, sends}
 use Rattle.rules.specs.Table.{heading, recordsAt, recordsOk}
 use Rattle.used.specs.Marks.{clear, top, upper, wrap, pairOf}
-use Rattle.used.specs.Fronts.{frontOk}
+use Rattle.tables.specs.Sections.{frontOk}
 use Rattle.used.proofs.Marks.{marks-zero}
 use Rattle.basics.proofs.Booleans.{Test, passes, fails, test}
 use Rattle.basics.proofs.Bits.{or-zero, xor-zero}

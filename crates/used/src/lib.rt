@@ -6,9 +6,8 @@ ghost use lib.Dec.{eqb};
 ghost use lib.ListN.{length};
 ghost use Rattle.xdr.specs.Words.{word};
 ghost use Rattle.rules.specs.Table.{heading, width, start as startOf};
-ghost use Rattle.unused.specs.Rears.{every, rearOk};
+ghost use Rattle.tables.specs.Sections.{every, rearOk, frontOk};
 ghost use Rattle.used.specs.Marks.{kindIndex, masks as masksOf, ByKind, Next, Found};
-ghost use Rattle.used.specs.Fronts.{frontOk};
 
 // Halves of a number of 64 bits: the top bit of a half, its other bits, and the weight of the upper half.
 pub const TOP: usize = 2147483648;

@@ -4,7 +4,7 @@ use borrow.Author.Needs.{needs}
 use borrow.Author.Tests.{not-true, not-false}
 use Rattle.xdr.specs.Words.{word}
 use Rattle.tables.proofs.Ranges.{product}
-use Rattle.layout.proofs.Tables.{sections-rears, sections-fronts}
+use Rattle.tables.proofs.Sections.{sections-rears, sections-fronts}
 use Rattle.used.proofs.Marks.{rooms-made}
 use Rattle.layout.proofs.sections_ok.Statement.{statement}
 use Rattle.layout.proofs.sections_ok.Tie as tie

@@ -5,8 +5,8 @@ use native.Mathlib.Omega.{arith}
 use borrow.Author.Needs.{needs}
 use Rattle.xdr.specs.Words.{word}
 use Rattle.rules.specs.Table.{start}
-use Rattle.unused.specs.Rears.{every, rearOk}
-use Rattle.unused.proofs.Zeros.{start-most, every-next, every-not}
+use Rattle.tables.specs.Sections.{every, rearOk}
+use Rattle.tables.proofs.Sections.{start-most, every-next, every-not}
 use Rattle.unused.proofs.rears.Statement.{statement}
 use Rattle.unused.proofs.rears.Tie as tie
 

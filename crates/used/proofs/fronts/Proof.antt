@@ -5,9 +5,8 @@ use native.Mathlib.Omega.{arith}
 use borrow.Author.Needs.{needs}
 use Rattle.xdr.specs.Words.{word}
 use Rattle.rules.specs.Table.{start}
-use Rattle.unused.specs.Rears.{every}
-use Rattle.used.specs.Fronts.{frontOk}
-use Rattle.unused.proofs.Zeros.{start-most, rears-count, every-next, every-not}
+use Rattle.tables.specs.Sections.{every, frontOk}
+use Rattle.tables.proofs.Sections.{start-most, rears-count, every-next, every-not}
 use Rattle.used.proofs.fronts.Statement.{statement}
 use Rattle.used.proofs.fronts.Tie as tie
 
