@@ -29,10 +29,14 @@ carried-cons (forced m) h k le = refl
 carried-cons (sent q) h k le = rw (ne-eqb k (suc (sends h)) (omega arith))
 carried-cons (received q j) h k le = refl
 
--- the number that a send carries stays what it was
+-- what is asked of the k-th send stays what it was
+kept-older : (f : History → ℕ → ℕ) → ((e : Event) (h : History) (k : ℕ) → k ≤ sends h → f (e ∷ h) k ≡ f h k)
+    → {h g : History} → Older h g → (k : ℕ) → k ≤ sends h → f g k ≡ f h k
+kept-older f keep same k le = refl
+kept-older f keep (newer {e} {g} o) k le = keep e g k (le-trans le (sends-older o)) ∙ kept-older f keep o k le
+
 pub carried-older : {h g : History} → Older h g → (k : ℕ) → k ≤ sends h → carried g k ≡ carried h k
-carried-older same k le = refl
-carried-older (newer {e} {g} o) k le = carried-cons e g k (le-trans le (sends-older o)) ∙ carried-older o k le
+carried-older = kept-older carried carried-cons
 
 destination-cons : (e : Event) (h : History) (k : ℕ) → k ≤ sends h → destination (e ∷ h) k ≡ destination h k
 destination-cons (basic m) h k le = refl
@@ -41,8 +45,7 @@ destination-cons (sent q) h k le = rw (ne-eqb k (suc (sends h)) (omega arith))
 destination-cons (received q j) h k le = refl
 
 pub destination-older : {h g : History} → Older h g → (k : ℕ) → k ≤ sends h → destination g k ≡ destination h k
-destination-older same k le = refl
-destination-older (newer {e} {g} o) k le = destination-cons e g k (le-trans le (sends-older o)) ∙ destination-older o k le
+destination-older = kept-older destination destination-cons
 
 -- ---- a message that is held
 
@@ -75,7 +78,7 @@ holds-older {h} {g} o p k e =
 pub record SendOf (h : History) (k : ℕ) : Type 0 where
   pub rest : History
   pub there : Older (sent (destination h k) ∷ rest) h
-  pub place : k ≡ suc (sends rest)
+  pub rank : k ≡ suc (sends rest)
   pub carries : carried h k ≡ number rest
 
 abbrev send-later : (e : Event) (h : History) (k : ℕ) → k ≤ sends h → SendOf h k → SendOf (e ∷ h) k
@@ -83,7 +86,7 @@ send-later e h k le S =
     record {
       rest = S .rest;
       there = rw (destination-cons e h k le) (newer (S .there));
-      place = S .place;
+      rank = S .rank;
       carries = carried-cons e h k le ∙ S .carries;
     }
 
@@ -95,7 +98,7 @@ send-of (received q j ∷ h) k pos le = send-later (received q j) h k le (send-o
 send-of (sent q ∷ h) k pos le = go (test (eqb k (suc (sends h)))) (send-of h k pos)
   where
     go : Test (eqb k (suc (sends h))) → (k ≤ sends h → SendOf h k) → SendOf (sent q ∷ h) k
-    go (passes e) r = record { rest = h; there = rw e same; place = eqb-true k (suc (sends h)) e; carries = rw e }
+    go (passes e) r = record { rest = h; there = rw e same; rank = eqb-true k (suc (sends h)) e; carries = rw e }
     go (fails e) r =
         let ne = eqb-false k (suc (sends h)) e in
         let l : k ≤ sends h = omega arith in

@@ -143,7 +143,7 @@ module _ (n E : ℕ) (s : State) (M : Sound n E s) (N : ℕ) where
       let S = send-of h k (H .positive) (H .counted) in
       let R : Rising (sent (destination h k) ∷ S .rest) = each-older _ (S .there) (M .rising q) in
       let x = S .carries in
-      let y = S .place in
+      let y = S .rank in
       let u : reached N (S .rest) ≡ false = reached-below N (S .rest) (R .1) (omega arith) in
       let held : Held (sent (destination h k) ∷ S .rest) p k =
       record { positive = H .positive; counted = omega arith; to = rw (eq-eqb k (suc (sends (S .rest))) y) (H .to) }
