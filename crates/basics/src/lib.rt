@@ -1,1 +1,1 @@
-// Laws of booleans and lists that every crate leans on, in proofs/. This crate has no code.
+// Laws of booleans, bits and lists that the crates above lean on, in proofs/. This crate has no code.

@@ -105,7 +105,7 @@ recordOk n E p h kind a b =
     (cond (eqb kind 3) (ltb a n && not (eqb a p) && ltb 0 b && leb b E && eqb b (suc (sends h)))
     (cond (eqb kind 4) (ltb a n && not (eqb a p) && ltb 0 b && leb b E) false))
 
--- the same of the record whose words start at word i
+-- whether the record whose words start at word i passes this test
 abbrev pub recordOkAt : ℕ → ℕ → ℕ → History → (ℕ → ℕ) → ℕ → Bool
 recordOkAt n E p h w i = recordOk n E p h (w i) (w (i + 1)) (w (i + 2))
 
