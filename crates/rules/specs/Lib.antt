@@ -5,6 +5,8 @@ pub mod Steps
 pub mod Lines
 pub mod FailureLine
 pub mod Calls
+pub mod Resend
 pub mod Lists
 pub mod Worked
+pub mod WorkedResend
 pub mod Text

@@ -24,7 +24,7 @@ abbrev freshTable : ℕ → ℕ → List ℕ
 freshTable n E = freshOn (replicate (size n E) 255) n E .table
 
 -- an area of m words
-abbrev area : ℕ → List ℕ
+abbrev pub area : ℕ → List ℕ
 area m = replicate (4 * m) 255
 
 -- an entry with an area of the exact length
@@ -65,7 +65,7 @@ pub record Case : Type 0 where
   pub given : List ℕ
   pub stated : List ℕ
 
-abbrev case : Outcome → List ℕ → Case
+abbrev pub case : Outcome → List ℕ → Case
 case o ws = record { given = told o; stated = ws }
 
 -- P1 to P3, lines 0, 1 and 2; P4 to P8, masks 0, 1, 2, 4 and 8; P9 and P10, two receipts

@@ -10,7 +10,8 @@ use Rattle.rules.specs.Steps.{checkpoint, send, receipt}
 use Rattle.rules.specs.FailureLine.{round, rounds, failureLine}
 use Rattle.rules.specs.Calls.{failureAnswer, freshOn, stepOn, lineOn, failedOn}
 use Rattle.rules.specs.Text.{fresh, step, line, failed}
-use Rattle.vectors.specs.Try.{Script, script, refused, accepted, lent, Agree}
+use Rattle.rules.specs.Resend.{inTransit, resendOn}
+use Rattle.vectors.specs.Try.{Script, script, refused, accepted, resend, lent, Agree}
 
 abbrev table0 : List ℕ
 table0 = bytes (3 ∷ 6 ∷ 0 ∷ 0 ∷ 0 ∷ 0 ∷ 0 ∷ 0 ∷ 0 ∷ 0 ∷ 0 ∷ 0 ∷ 0 ∷ 0 ∷ 0 ∷ 0 ∷ 0 ∷ 0 ∷ 0 ∷ 0 ∷ 0 ∷ 0 ∷ 0 ∷ 0 ∷ 0 ∷ 0 ∷ 0 ∷ 0 ∷ 0 ∷ 0 ∷ 0 ∷ 0 ∷ 0 ∷ 0 ∷ 0 ∷ 0
@@ -56,7 +57,7 @@ worked = script (lent 260) (accepted (fresh 3 6) 0 [] table0 ∷ accepted (step 
     ∷ refused (step 2 (receipt 1 1)) 8 8 ∷ refused (step 1 (receipt 0 2)) 8 7 ∷ []) ∷ []
 
 pub worked-agree : Agree worked
-unfolding freshOn stepOn lineOn failedOn layout decoded wellLaid word putWord putWords failureAnswer failureLine rounds round ones onesIn
+unfolding freshOn stepOn lineOn failedOn resendOn layout decoded wellLaid word putWord putWords failureAnswer failureLine rounds round ones onesIn inTransit
 worked-agree = refl
 
 abbrev table8 : List ℕ
@@ -102,7 +103,7 @@ small = script (lent 80) (accepted (fresh 2 2) 0 [] table8 ∷ accepted (step 0 
     ∷ accepted (step 1 (receipt 0 1)) 8 (1 ∷ 0 ∷ []) table18 ∷ []) ∷ []
 
 pub small-agree : Agree small
-unfolding freshOn stepOn lineOn failedOn layout decoded wellLaid word putWord putWords failureAnswer failureLine rounds round ones onesIn
+unfolding freshOn stepOn lineOn failedOn resendOn layout decoded wellLaid word putWord putWords failureAnswer failureLine rounds round ones onesIn inTransit
 small-agree = refl
 
 abbrev table19 : List ℕ
@@ -145,32 +146,33 @@ table29 = bytes (16777216 ∷ 2 ∷ 2 ∷ 1 ∷ 1 ∷ 1 ∷ 1 ∷ 0 ∷ 3 ∷ 1 
 -- Tables under 8 bytes, dimensions out of range, other lengths than those of n and E.
 abbrev lengths : List Script
 lengths = script (lent 0) (refused (step 4294967295 checkpoint) 8 2 ∷ refused (step 2 (send 2)) 8 2 ∷ refused (step 2 (receipt 2 0)) 8 2
-    ∷ refused (line 4294967295) 8 2 ∷ refused (failed 4294967295) 8 2 ∷ refused (fresh 2 2) 0 2 ∷ refused (fresh 0 2) 0 1 ∷ [])
-    ∷ script table19 (refused (step 4294967295 checkpoint) 8 2 ∷ refused (step 2 (send 2)) 8 2 ∷ refused (step 2 (receipt 2 0)) 8 2
-    ∷ refused (line 4294967295) 8 2 ∷ refused (failed 4294967295) 8 2 ∷ refused (fresh 2 2) 0 2 ∷ refused (fresh 0 2) 0 1 ∷ [])
-    ∷ script table20 (refused (step 4294967295 checkpoint) 8 2 ∷ refused (step 2 (send 2)) 8 2 ∷ refused (step 2 (receipt 2 0)) 8 2
-    ∷ refused (line 4294967295) 8 2 ∷ refused (failed 4294967295) 8 2 ∷ refused (fresh 2 2) 0 2 ∷ refused (fresh 0 2) 0 1 ∷ [])
-    ∷ script table21 (refused (step 4294967295 checkpoint) 8 2 ∷ refused (step 2 (send 2)) 8 2 ∷ refused (step 2 (receipt 2 0)) 8 2
-    ∷ refused (line 4294967295) 8 2 ∷ refused (failed 4294967295) 8 2 ∷ refused (fresh 2 2) 0 2 ∷ refused (fresh 0 2) 0 1 ∷ [])
-    ∷ script table22 (refused (step 4294967295 checkpoint) 8 2 ∷ refused (step 2 (send 2)) 8 2 ∷ refused (step 2 (receipt 2 0)) 8 2
-    ∷ refused (line 4294967295) 8 2 ∷ refused (failed 4294967295) 8 2 ∷ refused (fresh 2 2) 0 2 ∷ refused (fresh 0 2) 0 1 ∷ [])
-    ∷ script table23 (refused (step 4294967295 checkpoint) 8 2 ∷ refused (step 2 (send 2)) 8 2 ∷ refused (step 2 (receipt 2 0)) 8 2
-    ∷ refused (line 4294967295) 8 2 ∷ refused (failed 4294967295) 8 2 ∷ refused (fresh 2 2) 0 2 ∷ refused (fresh 0 2) 0 1 ∷ [])
-    ∷ script table24 (refused (step 4294967295 checkpoint) 8 1 ∷ refused (step 2 (send 2)) 8 1 ∷ refused (step 2 (receipt 2 0)) 8 1
-    ∷ refused (line 4294967295) 8 1 ∷ refused (failed 4294967295) 8 1 ∷ refused (fresh 0 2) 0 1 ∷ [])
-    ∷ script table25 (refused (step 4294967295 checkpoint) 8 1 ∷ refused (step 2 (send 2)) 8 1 ∷ refused (step 2 (receipt 2 0)) 8 1
-    ∷ refused (line 4294967295) 8 1 ∷ refused (failed 4294967295) 8 1 ∷ refused (fresh 17 2) 0 1 ∷ [])
-    ∷ script table26 (refused (step 4294967295 checkpoint) 8 1 ∷ refused (step 2 (send 2)) 8 1 ∷ refused (step 2 (receipt 2 0)) 8 1
-    ∷ refused (line 4294967295) 8 1 ∷ refused (failed 4294967295) 8 1 ∷ refused (fresh 2 0) 0 1 ∷ [])
-    ∷ script table27 (refused (step 4294967295 checkpoint) 8 1 ∷ refused (step 2 (send 2)) 8 1 ∷ refused (step 2 (receipt 2 0)) 8 1
-    ∷ refused (line 4294967295) 8 1 ∷ refused (failed 4294967295) 8 1 ∷ refused (fresh 2 1025) 0 1 ∷ [])
-    ∷ script table28 (refused (step 4294967295 checkpoint) 8 1 ∷ refused (step 2 (send 2)) 8 1 ∷ refused (step 2 (receipt 2 0)) 8 1
-    ∷ refused (line 4294967295) 8 1 ∷ refused (failed 4294967295) 8 1 ∷ refused (fresh 4294967295 4294967295) 0 1 ∷ [])
-    ∷ script table29 (refused (step 4294967295 checkpoint) 8 1 ∷ refused (step 2 (send 2)) 8 1 ∷ refused (step 2 (receipt 2 0)) 8 1
-    ∷ refused (line 4294967295) 8 1 ∷ refused (failed 4294967295) 8 1 ∷ refused (fresh 16777216 2) 0 1 ∷ []) ∷ []
+    ∷ refused (line 4294967295) 8 2 ∷ refused (failed 4294967295) 8 2 ∷ resend (0 ∷ 4294967295 ∷ []) [] 8 2 [] ∷ refused (fresh 2 2) 0 2
+    ∷ refused (fresh 0 2) 0 1 ∷ []) ∷ script table19 (refused (step 4294967295 checkpoint) 8 2 ∷ refused (step 2 (send 2)) 8 2
+    ∷ refused (step 2 (receipt 2 0)) 8 2 ∷ refused (line 4294967295) 8 2 ∷ refused (failed 4294967295) 8 2 ∷ resend (0 ∷ 4294967295 ∷ []) [] 8 2 []
+    ∷ refused (fresh 2 2) 0 2 ∷ refused (fresh 0 2) 0 1 ∷ []) ∷ script table20 (refused (step 4294967295 checkpoint) 8 2 ∷ refused (step 2 (send 2)) 8 2
+    ∷ refused (step 2 (receipt 2 0)) 8 2 ∷ refused (line 4294967295) 8 2 ∷ refused (failed 4294967295) 8 2 ∷ resend (0 ∷ 4294967295 ∷ []) [] 8 2 []
+    ∷ refused (fresh 2 2) 0 2 ∷ refused (fresh 0 2) 0 1 ∷ []) ∷ script table21 (refused (step 4294967295 checkpoint) 8 2 ∷ refused (step 2 (send 2)) 8 2
+    ∷ refused (step 2 (receipt 2 0)) 8 2 ∷ refused (line 4294967295) 8 2 ∷ refused (failed 4294967295) 8 2 ∷ resend (0 ∷ 4294967295 ∷ []) [] 8 2 []
+    ∷ refused (fresh 2 2) 0 2 ∷ refused (fresh 0 2) 0 1 ∷ []) ∷ script table22 (refused (step 4294967295 checkpoint) 8 2 ∷ refused (step 2 (send 2)) 8 2
+    ∷ refused (step 2 (receipt 2 0)) 8 2 ∷ refused (line 4294967295) 8 2 ∷ refused (failed 4294967295) 8 2 ∷ resend (0 ∷ 4294967295 ∷ []) [] 8 2 []
+    ∷ refused (fresh 2 2) 0 2 ∷ refused (fresh 0 2) 0 1 ∷ []) ∷ script table23 (refused (step 4294967295 checkpoint) 8 2 ∷ refused (step 2 (send 2)) 8 2
+    ∷ refused (step 2 (receipt 2 0)) 8 2 ∷ refused (line 4294967295) 8 2 ∷ refused (failed 4294967295) 8 2 ∷ resend (0 ∷ 4294967295 ∷ []) [] 8 2 []
+    ∷ refused (fresh 2 2) 0 2 ∷ refused (fresh 0 2) 0 1 ∷ []) ∷ script table24 (refused (step 4294967295 checkpoint) 8 1 ∷ refused (step 2 (send 2)) 8 1
+    ∷ refused (step 2 (receipt 2 0)) 8 1 ∷ refused (line 4294967295) 8 1 ∷ refused (failed 4294967295) 8 1 ∷ resend (0 ∷ 4294967295 ∷ []) [] 8 1 []
+    ∷ refused (fresh 0 2) 0 1 ∷ []) ∷ script table25 (refused (step 4294967295 checkpoint) 8 1 ∷ refused (step 2 (send 2)) 8 1
+    ∷ refused (step 2 (receipt 2 0)) 8 1 ∷ refused (line 4294967295) 8 1 ∷ refused (failed 4294967295) 8 1 ∷ resend (0 ∷ 4294967295 ∷ []) [] 8 1 []
+    ∷ refused (fresh 17 2) 0 1 ∷ []) ∷ script table26 (refused (step 4294967295 checkpoint) 8 1 ∷ refused (step 2 (send 2)) 8 1
+    ∷ refused (step 2 (receipt 2 0)) 8 1 ∷ refused (line 4294967295) 8 1 ∷ refused (failed 4294967295) 8 1 ∷ resend (0 ∷ 4294967295 ∷ []) [] 8 1 []
+    ∷ refused (fresh 2 0) 0 1 ∷ []) ∷ script table27 (refused (step 4294967295 checkpoint) 8 1 ∷ refused (step 2 (send 2)) 8 1
+    ∷ refused (step 2 (receipt 2 0)) 8 1 ∷ refused (line 4294967295) 8 1 ∷ refused (failed 4294967295) 8 1 ∷ resend (0 ∷ 4294967295 ∷ []) [] 8 1 []
+    ∷ refused (fresh 2 1025) 0 1 ∷ []) ∷ script table28 (refused (step 4294967295 checkpoint) 8 1 ∷ refused (step 2 (send 2)) 8 1
+    ∷ refused (step 2 (receipt 2 0)) 8 1 ∷ refused (line 4294967295) 8 1 ∷ refused (failed 4294967295) 8 1 ∷ resend (0 ∷ 4294967295 ∷ []) [] 8 1 []
+    ∷ refused (fresh 4294967295 4294967295) 0 1 ∷ []) ∷ script table29 (refused (step 4294967295 checkpoint) 8 1 ∷ refused (step 2 (send 2)) 8 1
+    ∷ refused (step 2 (receipt 2 0)) 8 1 ∷ refused (line 4294967295) 8 1 ∷ refused (failed 4294967295) 8 1 ∷ resend (0 ∷ 4294967295 ∷ []) [] 8 1 []
+    ∷ refused (fresh 16777216 2) 0 1 ∷ []) ∷ []
 
 pub lengths-agree : Agree lengths
-unfolding freshOn stepOn lineOn failedOn layout decoded wellLaid word putWord putWords failureAnswer failureLine rounds round ones onesIn
+unfolding freshOn stepOn lineOn failedOn resendOn layout decoded wellLaid word putWord putWords failureAnswer failureLine rounds round ones onesIn inTransit
 lengths-agree = refl
 
 abbrev table30 : List ℕ
@@ -250,29 +252,34 @@ table54 = bytes (2 ∷ 2 ∷ 2 ∷ 1 ∷ 1 ∷ 1 ∷ 1 ∷ 0 ∷ 3 ∷ 1 ∷ 1 �
 
 -- Tables that are not well laid, by each clause.
 abbrev laid : List Script
-laid = script table30 (refused (step 0 checkpoint) 4 3 ∷ refused (step 1 (send 0)) 8 3 ∷ refused (failed 0) 16 3 ∷ [])
-    ∷ script table31 (refused (step 1 (send 0)) 8 3 ∷ refused (step 1 (receipt 0 1)) 8 3 ∷ refused (failed 0) 16 3 ∷ [])
-    ∷ script table32 (refused (step 1 (receipt 0 1)) 8 3 ∷ refused (line 1) 8 3 ∷ refused (failed 0) 16 3 ∷ []) ∷ script table33 (refused (line 1) 8 3
-    ∷ refused (step 0 checkpoint) 4 3 ∷ refused (failed 0) 16 3 ∷ []) ∷ script table34 (refused (step 0 checkpoint) 4 3 ∷ refused (step 1 (send 0)) 8 3
-    ∷ refused (failed 0) 16 3 ∷ []) ∷ script table35 (refused (step 1 (send 0)) 8 3 ∷ refused (step 1 (receipt 0 1)) 8 3 ∷ refused (failed 0) 16 3 ∷ [])
-    ∷ script table36 (refused (step 1 (receipt 0 1)) 8 3 ∷ refused (line 1) 8 3 ∷ refused (failed 0) 16 3 ∷ []) ∷ script table37 (refused (line 1) 8 3
-    ∷ refused (step 0 checkpoint) 4 3 ∷ refused (failed 0) 16 3 ∷ []) ∷ script table38 (refused (step 0 checkpoint) 4 3 ∷ refused (step 1 (send 0)) 8 3
-    ∷ refused (failed 0) 16 3 ∷ []) ∷ script table39 (refused (step 1 (send 0)) 8 3 ∷ refused (step 1 (receipt 0 1)) 8 3 ∷ refused (failed 0) 16 3 ∷ [])
-    ∷ script table40 (refused (step 1 (receipt 0 1)) 8 3 ∷ refused (line 1) 8 3 ∷ refused (failed 0) 16 3 ∷ []) ∷ script table41 (refused (line 1) 8 3
-    ∷ refused (step 0 checkpoint) 4 3 ∷ refused (failed 0) 16 3 ∷ []) ∷ script table42 (refused (step 0 checkpoint) 4 3 ∷ refused (step 1 (send 0)) 8 3
-    ∷ refused (failed 0) 16 3 ∷ []) ∷ script table43 (refused (step 1 (send 0)) 8 3 ∷ refused (step 1 (receipt 0 1)) 8 3 ∷ refused (failed 0) 16 3 ∷ [])
-    ∷ script table44 (refused (step 1 (receipt 0 1)) 8 3 ∷ refused (line 1) 8 3 ∷ refused (failed 0) 16 3 ∷ []) ∷ script table45 (refused (line 1) 8 3
-    ∷ refused (step 0 checkpoint) 4 3 ∷ refused (failed 0) 16 3 ∷ []) ∷ script table46 (refused (step 0 checkpoint) 4 3 ∷ refused (step 1 (send 0)) 8 3
-    ∷ refused (failed 0) 16 3 ∷ []) ∷ script table47 (refused (step 1 (send 0)) 8 3 ∷ refused (step 1 (receipt 0 1)) 8 3 ∷ refused (failed 0) 16 3 ∷ [])
-    ∷ script table48 (refused (step 1 (receipt 0 1)) 8 3 ∷ refused (line 1) 8 3 ∷ refused (failed 0) 16 3 ∷ []) ∷ script table49 (refused (line 1) 8 3
-    ∷ refused (step 0 checkpoint) 4 3 ∷ refused (failed 0) 16 3 ∷ []) ∷ script table50 (refused (step 0 checkpoint) 4 3 ∷ refused (step 1 (send 0)) 8 3
-    ∷ refused (failed 0) 16 3 ∷ []) ∷ script table51 (refused (step 1 (send 0)) 8 3 ∷ refused (step 1 (receipt 0 1)) 8 3 ∷ refused (failed 0) 16 3 ∷ [])
-    ∷ script table52 (refused (step 1 (receipt 0 1)) 8 3 ∷ refused (line 1) 8 3 ∷ refused (failed 0) 16 3 ∷ []) ∷ script table53 (refused (line 1) 8 3
-    ∷ refused (step 0 checkpoint) 4 3 ∷ refused (failed 0) 16 3 ∷ []) ∷ script table54 (refused (step 0 checkpoint) 4 3 ∷ refused (step 1 (send 0)) 8 3
-    ∷ refused (failed 0) 16 3 ∷ []) ∷ []
+laid = script table30 (refused (step 0 checkpoint) 4 3 ∷ refused (step 1 (send 0)) 8 3 ∷ refused (failed 0) 16 3 ∷ resend [] [] 0 3 [] ∷ [])
+    ∷ script table31 (refused (step 1 (send 0)) 8 3 ∷ refused (step 1 (receipt 0 1)) 8 3 ∷ refused (failed 0) 16 3 ∷ resend [] [] 0 3 [] ∷ [])
+    ∷ script table32 (refused (step 1 (receipt 0 1)) 8 3 ∷ refused (line 1) 8 3 ∷ refused (failed 0) 16 3 ∷ resend [] [] 0 3 [] ∷ [])
+    ∷ script table33 (refused (line 1) 8 3 ∷ refused (step 0 checkpoint) 4 3 ∷ refused (failed 0) 16 3 ∷ resend [] [] 0 3 [] ∷ [])
+    ∷ script table34 (refused (step 0 checkpoint) 4 3 ∷ refused (step 1 (send 0)) 8 3 ∷ refused (failed 0) 16 3 ∷ resend [] [] 0 3 [] ∷ [])
+    ∷ script table35 (refused (step 1 (send 0)) 8 3 ∷ refused (step 1 (receipt 0 1)) 8 3 ∷ refused (failed 0) 16 3 ∷ resend [] [] 0 3 [] ∷ [])
+    ∷ script table36 (refused (step 1 (receipt 0 1)) 8 3 ∷ refused (line 1) 8 3 ∷ refused (failed 0) 16 3 ∷ resend [] [] 0 3 [] ∷ [])
+    ∷ script table37 (refused (line 1) 8 3 ∷ refused (step 0 checkpoint) 4 3 ∷ refused (failed 0) 16 3 ∷ resend [] [] 0 3 [] ∷ [])
+    ∷ script table38 (refused (step 0 checkpoint) 4 3 ∷ refused (step 1 (send 0)) 8 3 ∷ refused (failed 0) 16 3 ∷ resend [] [] 0 3 [] ∷ [])
+    ∷ script table39 (refused (step 1 (send 0)) 8 3 ∷ refused (step 1 (receipt 0 1)) 8 3 ∷ refused (failed 0) 16 3 ∷ resend [] [] 0 3 [] ∷ [])
+    ∷ script table40 (refused (step 1 (receipt 0 1)) 8 3 ∷ refused (line 1) 8 3 ∷ refused (failed 0) 16 3 ∷ resend [] [] 0 3 [] ∷ [])
+    ∷ script table41 (refused (line 1) 8 3 ∷ refused (step 0 checkpoint) 4 3 ∷ refused (failed 0) 16 3 ∷ resend [] [] 0 3 [] ∷ [])
+    ∷ script table42 (refused (step 0 checkpoint) 4 3 ∷ refused (step 1 (send 0)) 8 3 ∷ refused (failed 0) 16 3 ∷ resend [] [] 0 3 [] ∷ [])
+    ∷ script table43 (refused (step 1 (send 0)) 8 3 ∷ refused (step 1 (receipt 0 1)) 8 3 ∷ refused (failed 0) 16 3 ∷ resend [] [] 0 3 [] ∷ [])
+    ∷ script table44 (refused (step 1 (receipt 0 1)) 8 3 ∷ refused (line 1) 8 3 ∷ refused (failed 0) 16 3 ∷ resend [] [] 0 3 [] ∷ [])
+    ∷ script table45 (refused (line 1) 8 3 ∷ refused (step 0 checkpoint) 4 3 ∷ refused (failed 0) 16 3 ∷ resend [] [] 0 3 [] ∷ [])
+    ∷ script table46 (refused (step 0 checkpoint) 4 3 ∷ refused (step 1 (send 0)) 8 3 ∷ refused (failed 0) 16 3 ∷ resend [] [] 0 3 [] ∷ [])
+    ∷ script table47 (refused (step 1 (send 0)) 8 3 ∷ refused (step 1 (receipt 0 1)) 8 3 ∷ refused (failed 0) 16 3 ∷ resend [] [] 0 3 [] ∷ [])
+    ∷ script table48 (refused (step 1 (receipt 0 1)) 8 3 ∷ refused (line 1) 8 3 ∷ refused (failed 0) 16 3 ∷ resend [] [] 0 3 [] ∷ [])
+    ∷ script table49 (refused (line 1) 8 3 ∷ refused (step 0 checkpoint) 4 3 ∷ refused (failed 0) 16 3 ∷ resend [] [] 0 3 [] ∷ [])
+    ∷ script table50 (refused (step 0 checkpoint) 4 3 ∷ refused (step 1 (send 0)) 8 3 ∷ refused (failed 0) 16 3 ∷ resend [] [] 0 3 [] ∷ [])
+    ∷ script table51 (refused (step 1 (send 0)) 8 3 ∷ refused (step 1 (receipt 0 1)) 8 3 ∷ refused (failed 0) 16 3 ∷ resend [] [] 0 3 [] ∷ [])
+    ∷ script table52 (refused (step 1 (receipt 0 1)) 8 3 ∷ refused (line 1) 8 3 ∷ refused (failed 0) 16 3 ∷ resend [] [] 0 3 [] ∷ [])
+    ∷ script table53 (refused (line 1) 8 3 ∷ refused (step 0 checkpoint) 4 3 ∷ refused (failed 0) 16 3 ∷ resend [] [] 0 3 [] ∷ [])
+    ∷ script table54 (refused (step 0 checkpoint) 4 3 ∷ refused (step 1 (send 0)) 8 3 ∷ refused (failed 0) 16 3 ∷ resend [] [] 0 3 [] ∷ []) ∷ []
 
 pub laid-agree : Agree laid
-unfolding freshOn stepOn lineOn failedOn layout decoded wellLaid word putWord putWords failureAnswer failureLine rounds round ones onesIn
+unfolding freshOn stepOn lineOn failedOn resendOn layout decoded wellLaid word putWord putWords failureAnswer failureLine rounds round ones onesIn inTransit
 laid-agree = refl
 
 abbrev table55 : List ℕ
@@ -305,29 +312,32 @@ table61 = bytes (3 ∷ 4 ∷ 3 ∷ 1 ∷ 0 ∷ 1 ∷ 1 ∷ 0 ∷ 4 ∷ 1 ∷ 1 �
 -- The rows of the steps and of the areas, in order.
 abbrev rows : List Script
 rows = script table55 (refused (step 4294967295 checkpoint) 0 4 ∷ refused (step 2 (send 2)) 0 4 ∷ refused (step 2 (receipt 2 0)) 0 4
-    ∷ refused (line 4294967295) 0 4 ∷ refused (failed 4294967295) 0 4 ∷ refused (step 4294967295 checkpoint) 3 4 ∷ refused (step 2 (send 2)) 3 4
-    ∷ refused (step 2 (receipt 2 0)) 3 4 ∷ refused (line 4294967295) 3 4 ∷ refused (failed 4294967295) 3 4 ∷ refused (step 4294967295 checkpoint) 4 5
-    ∷ refused (step 2 (send 2)) 4 4 ∷ refused (step 2 (receipt 2 0)) 4 4 ∷ refused (line 4294967295) 4 4 ∷ refused (failed 4294967295) 4 4
-    ∷ refused (step 4294967295 checkpoint) 5 4 ∷ refused (step 2 (send 2)) 5 4 ∷ refused (step 2 (receipt 2 0)) 5 4 ∷ refused (line 4294967295) 5 4
-    ∷ refused (failed 4294967295) 5 4 ∷ refused (step 4294967295 checkpoint) 7 4 ∷ refused (step 2 (send 2)) 7 4 ∷ refused (step 2 (receipt 2 0)) 7 4
-    ∷ refused (line 4294967295) 7 4 ∷ refused (failed 4294967295) 7 4 ∷ refused (step 4294967295 checkpoint) 8 4 ∷ refused (step 2 (send 2)) 8 5
-    ∷ refused (step 2 (receipt 2 0)) 8 5 ∷ accepted (line 4294967295) 8 (2 ∷ 1 ∷ []) table55 ∷ refused (failed 4294967295) 8 4
-    ∷ refused (step 4294967295 checkpoint) 9 4 ∷ refused (step 2 (send 2)) 9 4 ∷ refused (step 2 (receipt 2 0)) 9 4 ∷ refused (line 4294967295) 9 4
-    ∷ refused (failed 4294967295) 9 4 ∷ refused (step 4294967295 checkpoint) 12 4 ∷ refused (step 2 (send 2)) 12 4 ∷ refused (step 2 (receipt 2 0)) 12 4
-    ∷ refused (line 4294967295) 12 4 ∷ refused (failed 4294967295) 12 4 ∷ refused (step 4294967295 checkpoint) 16 4 ∷ refused (step 2 (send 2)) 16 4
-    ∷ refused (step 2 (receipt 2 0)) 16 4 ∷ refused (line 4294967295) 16 4 ∷ refused (failed 4294967295) 16 11 ∷ refused (step 4294967295 checkpoint) 17 4
-    ∷ refused (step 2 (send 2)) 17 4 ∷ refused (step 2 (receipt 2 0)) 17 4 ∷ refused (line 4294967295) 17 4 ∷ refused (failed 4294967295) 17 4 ∷ [])
-    ∷ script table56 (refused (step 0 checkpoint) 4 9 ∷ refused (step 0 (send 1)) 8 9 ∷ refused (step 3 checkpoint) 4 5 ∷ refused (step 4 checkpoint) 4 5
-    ∷ refused (step 4294967295 checkpoint) 4 5 ∷ refused (step 3 (send 3)) 8 5 ∷ refused (step 4294967295 (send 4294967295)) 8 5
-    ∷ refused (step 0 (send 0)) 8 6 ∷ refused (step 0 (send 3)) 8 6 ∷ refused (step 0 (send 4294967295)) 8 6 ∷ refused (step 0 (receipt 0 0)) 8 6
-    ∷ refused (step 0 (receipt 3 0)) 8 6 ∷ refused (step 0 (receipt 4294967295 0)) 8 6 ∷ refused (step 0 (receipt 1 0)) 8 7
-    ∷ refused (step 0 (receipt 1 1)) 8 8 ∷ refused (step 0 (receipt 1 2)) 8 7 ∷ refused (step 0 (receipt 1 3)) 8 9 ∷ refused (step 0 (receipt 1 4)) 8 7
-    ∷ refused (step 0 (receipt 1 5)) 8 7 ∷ refused (step 0 (receipt 1 4294967295)) 8 7 ∷ []) ∷ script table57 (refused (step 0 checkpoint) 4 10
+    ∷ refused (line 4294967295) 0 4 ∷ refused (failed 4294967295) 0 4 ∷ resend (0 ∷ 4294967295 ∷ []) [] 0 12 [] ∷ refused (step 4294967295 checkpoint) 3 4
+    ∷ refused (step 2 (send 2)) 3 4 ∷ refused (step 2 (receipt 2 0)) 3 4 ∷ refused (line 4294967295) 3 4 ∷ refused (failed 4294967295) 3 4
+    ∷ resend (0 ∷ 4294967295 ∷ []) [] 3 12 [] ∷ refused (step 4294967295 checkpoint) 4 5 ∷ refused (step 2 (send 2)) 4 4 ∷ refused (step 2 (receipt 2 0)) 4 4
+    ∷ refused (line 4294967295) 4 4 ∷ refused (failed 4294967295) 4 4 ∷ resend (0 ∷ 4294967295 ∷ []) [] 4 12 [] ∷ refused (step 4294967295 checkpoint) 5 4
+    ∷ refused (step 2 (send 2)) 5 4 ∷ refused (step 2 (receipt 2 0)) 5 4 ∷ refused (line 4294967295) 5 4 ∷ refused (failed 4294967295) 5 4
+    ∷ resend (0 ∷ 4294967295 ∷ []) [] 5 12 [] ∷ refused (step 4294967295 checkpoint) 7 4 ∷ refused (step 2 (send 2)) 7 4 ∷ refused (step 2 (receipt 2 0)) 7 4
+    ∷ refused (line 4294967295) 7 4 ∷ refused (failed 4294967295) 7 4 ∷ resend (0 ∷ 4294967295 ∷ []) [] 7 12 [] ∷ refused (step 4294967295 checkpoint) 8 4
+    ∷ refused (step 2 (send 2)) 8 5 ∷ refused (step 2 (receipt 2 0)) 8 5 ∷ accepted (line 4294967295) 8 (2 ∷ 1 ∷ []) table55 ∷ refused (failed 4294967295) 8 4
+    ∷ resend (0 ∷ 4294967295 ∷ []) [] 8 12 [] ∷ refused (step 4294967295 checkpoint) 9 4 ∷ refused (step 2 (send 2)) 9 4 ∷ refused (step 2 (receipt 2 0)) 9 4
+    ∷ refused (line 4294967295) 9 4 ∷ refused (failed 4294967295) 9 4 ∷ resend (0 ∷ 4294967295 ∷ []) [] 9 12 [] ∷ refused (step 4294967295 checkpoint) 12 4
+    ∷ refused (step 2 (send 2)) 12 4 ∷ refused (step 2 (receipt 2 0)) 12 4 ∷ refused (line 4294967295) 12 4 ∷ refused (failed 4294967295) 12 4
+    ∷ resend (0 ∷ 4294967295 ∷ []) [] 12 12 [] ∷ refused (step 4294967295 checkpoint) 16 4 ∷ refused (step 2 (send 2)) 16 4
+    ∷ refused (step 2 (receipt 2 0)) 16 4 ∷ refused (line 4294967295) 16 4 ∷ refused (failed 4294967295) 16 11 ∷ resend (0 ∷ 4294967295 ∷ []) [] 16 12 []
+    ∷ refused (step 4294967295 checkpoint) 17 4 ∷ refused (step 2 (send 2)) 17 4 ∷ refused (step 2 (receipt 2 0)) 17 4 ∷ refused (line 4294967295) 17 4
+    ∷ refused (failed 4294967295) 17 4 ∷ resend (0 ∷ 4294967295 ∷ []) [] 17 12 [] ∷ []) ∷ script table56 (refused (step 0 checkpoint) 4 9
+    ∷ refused (step 0 (send 1)) 8 9 ∷ refused (step 3 checkpoint) 4 5 ∷ refused (step 4 checkpoint) 4 5 ∷ refused (step 4294967295 checkpoint) 4 5
+    ∷ refused (step 3 (send 3)) 8 5 ∷ refused (step 4294967295 (send 4294967295)) 8 5 ∷ refused (step 0 (send 0)) 8 6 ∷ refused (step 0 (send 3)) 8 6
+    ∷ refused (step 0 (send 4294967295)) 8 6 ∷ refused (step 0 (receipt 0 0)) 8 6 ∷ refused (step 0 (receipt 3 0)) 8 6
+    ∷ refused (step 0 (receipt 4294967295 0)) 8 6 ∷ refused (step 0 (receipt 1 0)) 8 7 ∷ refused (step 0 (receipt 1 1)) 8 8
+    ∷ refused (step 0 (receipt 1 2)) 8 7 ∷ refused (step 0 (receipt 1 3)) 8 9 ∷ refused (step 0 (receipt 1 4)) 8 7 ∷ refused (step 0 (receipt 1 5)) 8 7
+    ∷ refused (step 0 (receipt 1 4294967295)) 8 7 ∷ []) ∷ script table57 (refused (step 0 checkpoint) 4 10
     ∷ accepted (step 0 (receipt 1 3)) 8 (2 ∷ 0 ∷ []) table58 ∷ []) ∷ script table59 (accepted (step 0 (receipt 1 3)) 8 (2 ∷ 0 ∷ []) table60 ∷ [])
     ∷ script table61 (refused (step 0 (receipt 1 3)) 8 9 ∷ []) ∷ []
 
 pub rows-agree : Agree rows
-unfolding freshOn stepOn lineOn failedOn layout decoded wellLaid word putWord putWords failureAnswer failureLine rounds round ones onesIn
+unfolding freshOn stepOn lineOn failedOn resendOn layout decoded wellLaid word putWord putWords failureAnswer failureLine rounds round ones onesIn inTransit
 rows-agree = refl
 
 abbrev table62 : List ℕ
@@ -429,7 +439,7 @@ forced = script table62 (accepted (step 1 (receipt 0 1)) 8 (5 ∷ 1 ∷ []) tabl
     ∷ accepted (line 1) 12 (2 ∷ 1 ∷ 1 ∷ []) table82 ∷ accepted (line 2) 12 (3 ∷ 1 ∷ 2 ∷ []) table82 ∷ []) ∷ []
 
 pub forced-agree : Agree forced
-unfolding freshOn stepOn lineOn failedOn layout decoded wellLaid word putWord putWords failureAnswer failureLine rounds round ones onesIn
+unfolding freshOn stepOn lineOn failedOn resendOn layout decoded wellLaid word putWord putWords failureAnswer failureLine rounds round ones onesIn inTransit
 forced-agree = refl
 
 abbrev table83 : List ℕ
@@ -444,7 +454,7 @@ fall = script table83 (accepted (line 0) 8 (0 ∷ 0 ∷ []) table83 ∷ accepted
     ∷ refused (failed 4294967295) 16 11 ∷ []) ∷ []
 
 pub fall-agree : Agree fall
-unfolding freshOn stepOn lineOn failedOn layout decoded wellLaid word putWord putWords failureAnswer failureLine rounds round ones onesIn
+unfolding freshOn stepOn lineOn failedOn resendOn layout decoded wellLaid word putWord putWords failureAnswer failureLine rounds round ones onesIn inTransit
 fall-agree = refl
 
 abbrev table84 : List ℕ
@@ -463,7 +473,7 @@ run0 = script (lent 32) (accepted (fresh 1 1) 0 [] table84 ∷ accepted (step 0 
     ∷ refused (failed 4294967295) 12 11 ∷ []) ∷ []
 
 pub run0-agree : Agree run0
-unfolding freshOn stepOn lineOn failedOn layout decoded wellLaid word putWord putWords failureAnswer failureLine rounds round ones onesIn
+unfolding freshOn stepOn lineOn failedOn resendOn layout decoded wellLaid word putWord putWords failureAnswer failureLine rounds round ones onesIn inTransit
 run0-agree = refl
 
 abbrev table86 : List ℕ
@@ -483,7 +493,7 @@ run1 = script (lent 68) (accepted (fresh 1 4) 0 [] table86 ∷ accepted (step 0 
     ∷ refused (failed 2) 12 11 ∷ refused (failed 4294967295) 12 11 ∷ []) ∷ []
 
 pub run1-agree : Agree run1
-unfolding freshOn stepOn lineOn failedOn layout decoded wellLaid word putWord putWords failureAnswer failureLine rounds round ones onesIn
+unfolding freshOn stepOn lineOn failedOn resendOn layout decoded wellLaid word putWord putWords failureAnswer failureLine rounds round ones onesIn inTransit
 run1-agree = refl
 
 abbrev table88 : List ℕ
@@ -507,7 +517,7 @@ run2 = script (lent 56) (accepted (fresh 2 1) 0 [] table88 ∷ accepted (step 0 
     ∷ accepted (failed 3) 16 (0 ∷ 0 ∷ 3 ∷ 2 ∷ []) table90 ∷ refused (failed 4) 16 11 ∷ refused (failed 4294967295) 16 11 ∷ []) ∷ []
 
 pub run2-agree : Agree run2
-unfolding freshOn stepOn lineOn failedOn layout decoded wellLaid word putWord putWords failureAnswer failureLine rounds round ones onesIn
+unfolding freshOn stepOn lineOn failedOn resendOn layout decoded wellLaid word putWord putWords failureAnswer failureLine rounds round ones onesIn inTransit
 run2-agree = refl
 
 abbrev table91 : List ℕ
@@ -544,7 +554,7 @@ run3 = script (lent 104) (accepted (fresh 2 3) 0 [] table91 ∷ refused (step 25
     ∷ accepted (failed 3) 16 (0 ∷ 0 ∷ 3 ∷ 2 ∷ []) table97 ∷ refused (failed 4) 16 11 ∷ refused (failed 4294967295) 16 11 ∷ []) ∷ []
 
 pub run3-agree : Agree run3
-unfolding freshOn stepOn lineOn failedOn layout decoded wellLaid word putWord putWords failureAnswer failureLine rounds round ones onesIn
+unfolding freshOn stepOn lineOn failedOn resendOn layout decoded wellLaid word putWord putWords failureAnswer failureLine rounds round ones onesIn inTransit
 run3-agree = refl
 
 abbrev table98 : List ℕ
@@ -585,7 +595,7 @@ run4 = script (lent 128) (accepted (fresh 2 4) 0 [] table14 ∷ accepted (step 0
     ∷ accepted (failed 3) 16 (0 ∷ 0 ∷ 3 ∷ 2 ∷ []) table105 ∷ refused (failed 4) 16 11 ∷ refused (failed 4294967295) 16 11 ∷ []) ∷ []
 
 pub run4-agree : Agree run4
-unfolding freshOn stepOn lineOn failedOn layout decoded wellLaid word putWord putWords failureAnswer failureLine rounds round ones onesIn
+unfolding freshOn stepOn lineOn failedOn resendOn layout decoded wellLaid word putWord putWords failureAnswer failureLine rounds round ones onesIn inTransit
 run4-agree = refl
 
 abbrev table106 : List ℕ
@@ -647,7 +657,7 @@ run5 = script (lent 152) (accepted (fresh 2 5) 0 [] table106 ∷ accepted (step 
     ∷ accepted (failed 3) 16 (4 ∷ 2 ∷ 3 ∷ 2 ∷ []) table116 ∷ refused (failed 4) 16 11 ∷ refused (failed 4294967295) 16 11 ∷ []) ∷ []
 
 pub run5-agree : Agree run5
-unfolding freshOn stepOn lineOn failedOn layout decoded wellLaid word putWord putWords failureAnswer failureLine rounds round ones onesIn
+unfolding freshOn stepOn lineOn failedOn resendOn layout decoded wellLaid word putWord putWords failureAnswer failureLine rounds round ones onesIn inTransit
 run5-agree = refl
 
 abbrev table117 : List ℕ
@@ -710,7 +720,7 @@ run6 = script (lent 176) (accepted (fresh 2 6) 0 [] table117 ∷ accepted (step 
     ∷ accepted (failed 3) 16 (3 ∷ 5 ∷ 3 ∷ 2 ∷ []) table127 ∷ refused (failed 4) 16 11 ∷ refused (failed 4294967295) 16 11 ∷ []) ∷ []
 
 pub run6-agree : Agree run6
-unfolding freshOn stepOn lineOn failedOn layout decoded wellLaid word putWord putWords failureAnswer failureLine rounds round ones onesIn
+unfolding freshOn stepOn lineOn failedOn resendOn layout decoded wellLaid word putWord putWords failureAnswer failureLine rounds round ones onesIn inTransit
 run6-agree = refl
 
 abbrev table128 : List ℕ
@@ -751,7 +761,7 @@ run7 = script (lent 116) (accepted (fresh 3 2) 0 [] table128 ∷ accepted (step 
     ∷ refused (failed 4294967295) 20 11 ∷ []) ∷ []
 
 pub run7-agree : Agree run7
-unfolding freshOn stepOn lineOn failedOn layout decoded wellLaid word putWord putWords failureAnswer failureLine rounds round ones onesIn
+unfolding freshOn stepOn lineOn failedOn resendOn layout decoded wellLaid word putWord putWords failureAnswer failureLine rounds round ones onesIn inTransit
 run7-agree = refl
 
 abbrev table135 : List ℕ
@@ -804,7 +814,7 @@ run8 = script (lent 152) (accepted (fresh 3 3) 0 [] table135 ∷ accepted (step 
     ∷ refused (failed 4294967295) 20 11 ∷ []) ∷ []
 
 pub run8-agree : Agree run8
-unfolding freshOn stepOn lineOn failedOn layout decoded wellLaid word putWord putWords failureAnswer failureLine rounds round ones onesIn
+unfolding freshOn stepOn lineOn failedOn resendOn layout decoded wellLaid word putWord putWords failureAnswer failureLine rounds round ones onesIn inTransit
 run8-agree = refl
 
 abbrev table143 : List ℕ
@@ -869,7 +879,7 @@ run9 = script (lent 188) (accepted (fresh 3 4) 0 [] table143 ∷ accepted (step 
     ∷ accepted (failed 7) 20 (0 ∷ 1 ∷ 4 ∷ 3 ∷ 2 ∷ []) table153 ∷ refused (failed 8) 20 11 ∷ refused (failed 4294967295) 20 11 ∷ []) ∷ []
 
 pub run9-agree : Agree run9
-unfolding freshOn stepOn lineOn failedOn layout decoded wellLaid word putWord putWords failureAnswer failureLine rounds round ones onesIn
+unfolding freshOn stepOn lineOn failedOn resendOn layout decoded wellLaid word putWord putWords failureAnswer failureLine rounds round ones onesIn inTransit
 run9-agree = refl
 
 abbrev table154 : List ℕ
@@ -955,7 +965,7 @@ run10 = script (lent 224) (accepted (fresh 3 5) 0 [] table154 ∷ accepted (step
     ∷ accepted (failed 7) 20 (4 ∷ 5 ∷ 5 ∷ 1 ∷ 1 ∷ []) table169 ∷ refused (failed 8) 20 11 ∷ refused (failed 4294967295) 20 11 ∷ []) ∷ []
 
 pub run10-agree : Agree run10
-unfolding freshOn stepOn lineOn failedOn layout decoded wellLaid word putWord putWords failureAnswer failureLine rounds round ones onesIn
+unfolding freshOn stepOn lineOn failedOn resendOn layout decoded wellLaid word putWord putWords failureAnswer failureLine rounds round ones onesIn inTransit
 run10-agree = refl
 
 abbrev table170 : List ℕ
@@ -1038,7 +1048,7 @@ run11 = script (lent 260) (accepted (fresh 3 6) 0 [] table0 ∷ accepted (step 0
     ∷ accepted (failed 7) 20 (4 ∷ 3 ∷ 5 ∷ 7 ∷ 3 ∷ []) table184 ∷ refused (failed 8) 20 11 ∷ refused (failed 4294967295) 20 11 ∷ []) ∷ []
 
 pub run11-agree : Agree run11
-unfolding freshOn stepOn lineOn failedOn layout decoded wellLaid word putWord putWords failureAnswer failureLine rounds round ones onesIn
+unfolding freshOn stepOn lineOn failedOn resendOn layout decoded wellLaid word putWord putWords failureAnswer failureLine rounds round ones onesIn inTransit
 run11-agree = refl
 
 -- A well laid table that no run makes: n = 1, E = 1.
@@ -1051,7 +1061,7 @@ unmade0 = script table84 (accepted (line 0) 4 (0 ∷ []) table84 ∷ accepted (l
     ∷ refused (step 0 (receipt 0 1)) 8 6 ∷ refused (step 0 (send 0)) 8 6 ∷ refused (step 0 (send 0)) 8 6 ∷ []) ∷ []
 
 pub unmade0-agree : Agree unmade0
-unfolding freshOn stepOn lineOn failedOn layout decoded wellLaid word putWord putWords failureAnswer failureLine rounds round ones onesIn
+unfolding freshOn stepOn lineOn failedOn resendOn layout decoded wellLaid word putWord putWords failureAnswer failureLine rounds round ones onesIn inTransit
 unmade0-agree = refl
 
 abbrev table185 : List ℕ
@@ -1067,7 +1077,7 @@ unmade1 = script table185 (accepted (line 0) 4 (0 ∷ []) table185 ∷ accepted 
     ∷ refused (step 0 (send 0)) 8 6 ∷ refused (step 0 (send 0)) 8 6 ∷ refused (step 0 (send 0)) 8 6 ∷ []) ∷ []
 
 pub unmade1-agree : Agree unmade1
-unfolding freshOn stepOn lineOn failedOn layout decoded wellLaid word putWord putWords failureAnswer failureLine rounds round ones onesIn
+unfolding freshOn stepOn lineOn failedOn resendOn layout decoded wellLaid word putWord putWords failureAnswer failureLine rounds round ones onesIn inTransit
 unmade1-agree = refl
 
 abbrev table186 : List ℕ
@@ -1088,7 +1098,7 @@ unmade2 = script table186 (accepted (line 0) 8 (0 ∷ 0 ∷ []) table186 ∷ acc
     ∷ refused (step 1 (send 0)) 8 9 ∷ []) ∷ []
 
 pub unmade2-agree : Agree unmade2
-unfolding freshOn stepOn lineOn failedOn layout decoded wellLaid word putWord putWords failureAnswer failureLine rounds round ones onesIn
+unfolding freshOn stepOn lineOn failedOn resendOn layout decoded wellLaid word putWord putWords failureAnswer failureLine rounds round ones onesIn inTransit
 unmade2-agree = refl
 
 abbrev table188 : List ℕ
@@ -1108,7 +1118,7 @@ unmade3 = script table188 (accepted (line 0) 8 (0 ∷ 0 ∷ []) table188 ∷ acc
     ∷ refused (step 0 (receipt 1 2)) 8 7 ∷ refused (step 1 checkpoint) 4 9 ∷ refused (step 0 (send 0)) 8 6 ∷ []) ∷ []
 
 pub unmade3-agree : Agree unmade3
-unfolding freshOn stepOn lineOn failedOn layout decoded wellLaid word putWord putWords failureAnswer failureLine rounds round ones onesIn
+unfolding freshOn stepOn lineOn failedOn resendOn layout decoded wellLaid word putWord putWords failureAnswer failureLine rounds round ones onesIn inTransit
 unmade3-agree = refl
 
 abbrev table190 : List ℕ
@@ -1132,7 +1142,7 @@ unmade4 = script table190 (accepted (line 0) 8 (0 ∷ 0 ∷ []) table190 ∷ acc
     ∷ refused (step 0 (receipt 1 1)) 8 8 ∷ []) ∷ []
 
 pub unmade4-agree : Agree unmade4
-unfolding freshOn stepOn lineOn failedOn layout decoded wellLaid word putWord putWords failureAnswer failureLine rounds round ones onesIn
+unfolding freshOn stepOn lineOn failedOn resendOn layout decoded wellLaid word putWord putWords failureAnswer failureLine rounds round ones onesIn inTransit
 unmade4-agree = refl
 
 abbrev table193 : List ℕ
@@ -1153,7 +1163,7 @@ unmade5 = script table193 (accepted (line 0) 8 (0 ∷ 0 ∷ []) table193 ∷ acc
     ∷ refused (step 0 (receipt 1 1)) 4 4 ∷ []) ∷ []
 
 pub unmade5-agree : Agree unmade5
-unfolding freshOn stepOn lineOn failedOn layout decoded wellLaid word putWord putWords failureAnswer failureLine rounds round ones onesIn
+unfolding freshOn stepOn lineOn failedOn resendOn layout decoded wellLaid word putWord putWords failureAnswer failureLine rounds round ones onesIn inTransit
 unmade5-agree = refl
 
 abbrev table195 : List ℕ
@@ -1192,7 +1202,7 @@ unmade6 = script table195 (accepted (line 0) 8 (0 ∷ 0 ∷ []) table195 ∷ acc
     ∷ refused (step 0 (send 1)) 8 9 ∷ refused (step 1 (send 0)) 8 9 ∷ []) ∷ []
 
 pub unmade6-agree : Agree unmade6
-unfolding freshOn stepOn lineOn failedOn layout decoded wellLaid word putWord putWords failureAnswer failureLine rounds round ones onesIn
+unfolding freshOn stepOn lineOn failedOn resendOn layout decoded wellLaid word putWord putWords failureAnswer failureLine rounds round ones onesIn inTransit
 unmade6-agree = refl
 
 abbrev table201 : List ℕ
@@ -1215,7 +1225,7 @@ unmade7 = script table201 (accepted (line 0) 8 (0 ∷ 0 ∷ []) table201 ∷ acc
     ∷ []
 
 pub unmade7-agree : Agree unmade7
-unfolding freshOn stepOn lineOn failedOn layout decoded wellLaid word putWord putWords failureAnswer failureLine rounds round ones onesIn
+unfolding freshOn stepOn lineOn failedOn resendOn layout decoded wellLaid word putWord putWords failureAnswer failureLine rounds round ones onesIn inTransit
 unmade7-agree = refl
 
 abbrev table203 : List ℕ
@@ -1248,7 +1258,7 @@ unmade8 = script table203 (accepted (line 0) 12 (0 ∷ 0 ∷ 0 ∷ []) table203 
     ∷ accepted (step 0 (receipt 2 1)) 8 (0 ∷ 0 ∷ []) table207 ∷ []) ∷ []
 
 pub unmade8-agree : Agree unmade8
-unfolding freshOn stepOn lineOn failedOn layout decoded wellLaid word putWord putWords failureAnswer failureLine rounds round ones onesIn
+unfolding freshOn stepOn lineOn failedOn resendOn layout decoded wellLaid word putWord putWords failureAnswer failureLine rounds round ones onesIn inTransit
 unmade8-agree = refl
 
 abbrev table208 : List ℕ
@@ -1286,7 +1296,7 @@ unmade9 = script table208 (accepted (line 0) 12 (0 ∷ 0 ∷ 0 ∷ []) table208 
     ∷ refused (step 2 (receipt 1 2)) 8 8 ∷ []) ∷ []
 
 pub unmade9-agree : Agree unmade9
-unfolding freshOn stepOn lineOn failedOn layout decoded wellLaid word putWord putWords failureAnswer failureLine rounds round ones onesIn
+unfolding freshOn stepOn lineOn failedOn resendOn layout decoded wellLaid word putWord putWords failureAnswer failureLine rounds round ones onesIn inTransit
 unmade9-agree = refl
 
 abbrev table213 : List ℕ
@@ -1324,7 +1334,7 @@ unmade10 = script table213 (accepted (line 0) 12 (0 ∷ 0 ∷ 0 ∷ []) table213
     ∷ refused (step 17 (send 0)) 8 5 ∷ []) ∷ []
 
 pub unmade10-agree : Agree unmade10
-unfolding freshOn stepOn lineOn failedOn layout decoded wellLaid word putWord putWords failureAnswer failureLine rounds round ones onesIn
+unfolding freshOn stepOn lineOn failedOn resendOn layout decoded wellLaid word putWord putWords failureAnswer failureLine rounds round ones onesIn inTransit
 unmade10-agree = refl
 
 abbrev table218 : List ℕ
@@ -1353,7 +1363,7 @@ unmade11 = script table218 (accepted (line 0) 12 (0 ∷ 0 ∷ 0 ∷ []) table218
     ∷ refused (step 2 (send 2)) 8 6 ∷ accepted (step 2 checkpoint) 4 (2 ∷ []) table220 ∷ []) ∷ []
 
 pub unmade11-agree : Agree unmade11
-unfolding freshOn stepOn lineOn failedOn layout decoded wellLaid word putWord putWords failureAnswer failureLine rounds round ones onesIn
+unfolding freshOn stepOn lineOn failedOn resendOn layout decoded wellLaid word putWord putWords failureAnswer failureLine rounds round ones onesIn inTransit
 unmade11-agree = refl
 
 abbrev table221 : List ℕ
@@ -1382,7 +1392,7 @@ unmade12 = script table221 (accepted (line 0) 12 (0 ∷ 0 ∷ 0 ∷ []) table221
     ∷ refused (step 2 (receipt 0 1)) 8 9 ∷ refused (step 1 (send 2)) 8 9 ∷ refused (step 2 checkpoint) 4 9 ∷ []) ∷ []
 
 pub unmade12-agree : Agree unmade12
-unfolding freshOn stepOn lineOn failedOn layout decoded wellLaid word putWord putWords failureAnswer failureLine rounds round ones onesIn
+unfolding freshOn stepOn lineOn failedOn resendOn layout decoded wellLaid word putWord putWords failureAnswer failureLine rounds round ones onesIn inTransit
 unmade12-agree = refl
 
 abbrev table224 : List ℕ
@@ -1416,5 +1426,255 @@ unmade13 = script table224 (accepted (line 0) 12 (0 ∷ 0 ∷ 0 ∷ []) table224
     ∷ []
 
 pub unmade13-agree : Agree unmade13
-unfolding freshOn stepOn lineOn failedOn layout decoded wellLaid word putWord putWords failureAnswer failureLine rounds round ones onesIn
+unfolding freshOn stepOn lineOn failedOn resendOn layout decoded wellLaid word putWord putWords failureAnswer failureLine rounds round ones onesIn inTransit
 unmade13-agree = refl
+
+abbrev table228 : List ℕ
+table228 = bytes (3 ∷ 4 ∷ 4 ∷ 0 ∷ 3 ∷ 3 ∷ 1 ∷ 1 ∷ 3 ∷ 2 ∷ 2 ∷ 3 ∷ 1 ∷ 3 ∷ 4 ∷ 1 ∷ 1 ∷ 4 ∷ 0 ∷ 1 ∷ 4 ∷ 0 ∷ 3 ∷ 4 ∷ 0 ∷ 2 ∷ 3 ∷ 2 ∷ 1 ∷ 4 ∷ 0 ∷ 3 ∷ 2 ∷ 0 ∷ 0
+    ∷ 4 ∷ 0 ∷ 1 ∷ 4 ∷ 1 ∷ 1 ∷ 0 ∷ 0 ∷ 0 ∷ 0 ∷ 0 ∷ 0 ∷ [])
+
+-- Resend at every cut of the worked controller, and of a table whose receipts are by others than the destination, or twice.
+abbrev resendCuts : List Script
+resendCuts = script table7 (resend (0 ∷ 0 ∷ 0 ∷ []) [] 4 0 (0 ∷ []) ∷ resend (0 ∷ 0 ∷ 0 ∷ []) [] 3 13 [] ∷ resend (0 ∷ 0 ∷ 0 ∷ []) [] 5 0 (0 ∷ [])
+    ∷ resend (0 ∷ 0 ∷ 0 ∷ []) [] 104 0 (0 ∷ []) ∷ resend (1 ∷ 0 ∷ 0 ∷ []) [] 4 0 (0 ∷ []) ∷ resend (2 ∷ 0 ∷ 0 ∷ []) [] 16 0 (1 ∷ 0 ∷ 1 ∷ 1 ∷ [])
+    ∷ resend (0 ∷ 1 ∷ 0 ∷ []) [] 16 0 (1 ∷ 1 ∷ 1 ∷ 2 ∷ []) ∷ resend (1 ∷ 1 ∷ 0 ∷ []) [] 16 0 (1 ∷ 1 ∷ 1 ∷ 2 ∷ [])
+    ∷ resend (2 ∷ 1 ∷ 0 ∷ []) [] 28 0 (2 ∷ 0 ∷ 1 ∷ 1 ∷ 1 ∷ 1 ∷ 2 ∷ []) ∷ resend (0 ∷ 2 ∷ 0 ∷ []) [] 16 0 (1 ∷ 1 ∷ 1 ∷ 2 ∷ [])
+    ∷ resend (0 ∷ 2 ∷ 0 ∷ []) [] 15 13 [] ∷ resend (0 ∷ 2 ∷ 0 ∷ []) [] 17 0 (1 ∷ 1 ∷ 1 ∷ 2 ∷ []) ∷ resend (0 ∷ 2 ∷ 0 ∷ []) [] 116 0 (1 ∷ 1 ∷ 1 ∷ 2 ∷ [])
+    ∷ resend (1 ∷ 2 ∷ 0 ∷ []) [] 16 0 (1 ∷ 1 ∷ 1 ∷ 2 ∷ []) ∷ resend (2 ∷ 2 ∷ 0 ∷ []) [] 28 0 (2 ∷ 0 ∷ 1 ∷ 1 ∷ 1 ∷ 1 ∷ 2 ∷ [])
+    ∷ resend (0 ∷ 3 ∷ 0 ∷ []) [] 16 0 (1 ∷ 1 ∷ 1 ∷ 2 ∷ []) ∷ resend (1 ∷ 3 ∷ 0 ∷ []) [] 16 0 (1 ∷ 1 ∷ 1 ∷ 2 ∷ [])
+    ∷ resend (2 ∷ 3 ∷ 0 ∷ []) [] 16 0 (1 ∷ 1 ∷ 1 ∷ 2 ∷ []) ∷ resend (0 ∷ 4 ∷ 0 ∷ []) [] 28 0 (2 ∷ 1 ∷ 1 ∷ 2 ∷ 1 ∷ 2 ∷ 2 ∷ [])
+    ∷ resend (0 ∷ 4 ∷ 0 ∷ []) [] 27 13 [] ∷ resend (0 ∷ 4 ∷ 0 ∷ []) [] 29 0 (2 ∷ 1 ∷ 1 ∷ 2 ∷ 1 ∷ 2 ∷ 2 ∷ [])
+    ∷ resend (0 ∷ 4 ∷ 0 ∷ []) [] 128 0 (2 ∷ 1 ∷ 1 ∷ 2 ∷ 1 ∷ 2 ∷ 2 ∷ []) ∷ resend (1 ∷ 4 ∷ 0 ∷ []) [] 28 0 (2 ∷ 1 ∷ 1 ∷ 2 ∷ 1 ∷ 2 ∷ 2 ∷ [])
+    ∷ resend (2 ∷ 4 ∷ 0 ∷ []) [] 28 0 (2 ∷ 1 ∷ 1 ∷ 2 ∷ 1 ∷ 2 ∷ 2 ∷ []) ∷ resend (0 ∷ 0 ∷ 1 ∷ []) [] 4 0 (0 ∷ []) ∷ resend (1 ∷ 0 ∷ 1 ∷ []) [] 4 0 (0 ∷ [])
+    ∷ resend (2 ∷ 0 ∷ 1 ∷ []) [] 16 0 (1 ∷ 0 ∷ 1 ∷ 1 ∷ []) ∷ resend (0 ∷ 1 ∷ 1 ∷ []) [] 16 0 (1 ∷ 1 ∷ 1 ∷ 2 ∷ []) ∷ resend (0 ∷ 1 ∷ 1 ∷ []) [] 15 13 []
+    ∷ resend (0 ∷ 1 ∷ 1 ∷ []) [] 17 0 (1 ∷ 1 ∷ 1 ∷ 2 ∷ []) ∷ resend (0 ∷ 1 ∷ 1 ∷ []) [] 116 0 (1 ∷ 1 ∷ 1 ∷ 2 ∷ [])
+    ∷ resend (1 ∷ 1 ∷ 1 ∷ []) [] 16 0 (1 ∷ 1 ∷ 1 ∷ 2 ∷ []) ∷ resend (2 ∷ 1 ∷ 1 ∷ []) [] 28 0 (2 ∷ 0 ∷ 1 ∷ 1 ∷ 1 ∷ 1 ∷ 2 ∷ [])
+    ∷ resend (0 ∷ 2 ∷ 1 ∷ []) [] 16 0 (1 ∷ 1 ∷ 1 ∷ 2 ∷ []) ∷ resend (1 ∷ 2 ∷ 1 ∷ []) [] 16 0 (1 ∷ 1 ∷ 1 ∷ 2 ∷ [])
+    ∷ resend (2 ∷ 2 ∷ 1 ∷ []) [] 28 0 (2 ∷ 0 ∷ 1 ∷ 1 ∷ 1 ∷ 1 ∷ 2 ∷ []) ∷ resend (0 ∷ 3 ∷ 1 ∷ []) [] 16 0 (1 ∷ 1 ∷ 1 ∷ 2 ∷ [])
+    ∷ resend (0 ∷ 3 ∷ 1 ∷ []) [] 15 13 [] ∷ resend (0 ∷ 3 ∷ 1 ∷ []) [] 17 0 (1 ∷ 1 ∷ 1 ∷ 2 ∷ []) ∷ resend (0 ∷ 3 ∷ 1 ∷ []) [] 116 0 (1 ∷ 1 ∷ 1 ∷ 2 ∷ [])
+    ∷ resend (1 ∷ 3 ∷ 1 ∷ []) [] 16 0 (1 ∷ 1 ∷ 1 ∷ 2 ∷ []) ∷ resend (2 ∷ 3 ∷ 1 ∷ []) [] 16 0 (1 ∷ 1 ∷ 1 ∷ 2 ∷ [])
+    ∷ resend (0 ∷ 4 ∷ 1 ∷ []) [] 28 0 (2 ∷ 1 ∷ 1 ∷ 2 ∷ 1 ∷ 2 ∷ 2 ∷ []) ∷ resend (1 ∷ 4 ∷ 1 ∷ []) [] 28 0 (2 ∷ 1 ∷ 1 ∷ 2 ∷ 1 ∷ 2 ∷ 2 ∷ [])
+    ∷ resend (2 ∷ 4 ∷ 1 ∷ []) [] 28 0 (2 ∷ 1 ∷ 1 ∷ 2 ∷ 1 ∷ 2 ∷ 2 ∷ []) ∷ resend (0 ∷ 0 ∷ 2 ∷ []) [] 4 0 (0 ∷ []) ∷ resend (0 ∷ 0 ∷ 2 ∷ []) [] 3 13 []
+    ∷ resend (0 ∷ 0 ∷ 2 ∷ []) [] 5 0 (0 ∷ []) ∷ resend (0 ∷ 0 ∷ 2 ∷ []) [] 104 0 (0 ∷ []) ∷ resend (1 ∷ 0 ∷ 2 ∷ []) [] 4 0 (0 ∷ [])
+    ∷ resend (2 ∷ 0 ∷ 2 ∷ []) [] 16 0 (1 ∷ 0 ∷ 1 ∷ 1 ∷ []) ∷ resend (0 ∷ 1 ∷ 2 ∷ []) [] 16 0 (1 ∷ 1 ∷ 1 ∷ 2 ∷ [])
+    ∷ resend (1 ∷ 1 ∷ 2 ∷ []) [] 16 0 (1 ∷ 1 ∷ 1 ∷ 2 ∷ []) ∷ resend (2 ∷ 1 ∷ 2 ∷ []) [] 28 0 (2 ∷ 0 ∷ 1 ∷ 1 ∷ 1 ∷ 1 ∷ 2 ∷ [])
+    ∷ resend (0 ∷ 2 ∷ 2 ∷ []) [] 16 0 (1 ∷ 1 ∷ 1 ∷ 2 ∷ []) ∷ resend (0 ∷ 2 ∷ 2 ∷ []) [] 15 13 [] ∷ resend (0 ∷ 2 ∷ 2 ∷ []) [] 17 0 (1 ∷ 1 ∷ 1 ∷ 2 ∷ [])
+    ∷ resend (0 ∷ 2 ∷ 2 ∷ []) [] 116 0 (1 ∷ 1 ∷ 1 ∷ 2 ∷ []) ∷ resend (1 ∷ 2 ∷ 2 ∷ []) [] 16 0 (1 ∷ 1 ∷ 1 ∷ 2 ∷ [])
+    ∷ resend (2 ∷ 2 ∷ 2 ∷ []) [] 28 0 (2 ∷ 0 ∷ 1 ∷ 1 ∷ 1 ∷ 1 ∷ 2 ∷ []) ∷ resend (0 ∷ 3 ∷ 2 ∷ []) [] 16 0 (1 ∷ 1 ∷ 1 ∷ 2 ∷ [])
+    ∷ resend (1 ∷ 3 ∷ 2 ∷ []) [] 16 0 (1 ∷ 1 ∷ 1 ∷ 2 ∷ []) ∷ resend (2 ∷ 3 ∷ 2 ∷ []) [] 16 0 (1 ∷ 1 ∷ 1 ∷ 2 ∷ [])
+    ∷ resend (0 ∷ 4 ∷ 2 ∷ []) [] 16 0 (1 ∷ 1 ∷ 1 ∷ 2 ∷ []) ∷ resend (0 ∷ 4 ∷ 2 ∷ []) [] 15 13 [] ∷ resend (0 ∷ 4 ∷ 2 ∷ []) [] 17 0 (1 ∷ 1 ∷ 1 ∷ 2 ∷ [])
+    ∷ resend (0 ∷ 4 ∷ 2 ∷ []) [] 116 0 (1 ∷ 1 ∷ 1 ∷ 2 ∷ []) ∷ resend (1 ∷ 4 ∷ 2 ∷ []) [] 16 0 (1 ∷ 1 ∷ 1 ∷ 2 ∷ [])
+    ∷ resend (2 ∷ 4 ∷ 2 ∷ []) [] 16 0 (1 ∷ 1 ∷ 1 ∷ 2 ∷ []) ∷ resend (0 ∷ 0 ∷ 3 ∷ []) [] 4 0 (0 ∷ []) ∷ resend (1 ∷ 0 ∷ 3 ∷ []) [] 4 0 (0 ∷ [])
+    ∷ resend (2 ∷ 0 ∷ 3 ∷ []) [] 16 0 (1 ∷ 0 ∷ 1 ∷ 1 ∷ []) ∷ resend (0 ∷ 1 ∷ 3 ∷ []) [] 4 0 (0 ∷ []) ∷ resend (0 ∷ 1 ∷ 3 ∷ []) [] 3 13 []
+    ∷ resend (0 ∷ 1 ∷ 3 ∷ []) [] 5 0 (0 ∷ []) ∷ resend (0 ∷ 1 ∷ 3 ∷ []) [] 104 0 (0 ∷ []) ∷ resend (1 ∷ 1 ∷ 3 ∷ []) [] 4 0 (0 ∷ [])
+    ∷ resend (2 ∷ 1 ∷ 3 ∷ []) [] 16 0 (1 ∷ 0 ∷ 1 ∷ 1 ∷ []) ∷ resend (0 ∷ 2 ∷ 3 ∷ []) [] 4 0 (0 ∷ []) ∷ resend (1 ∷ 2 ∷ 3 ∷ []) [] 4 0 (0 ∷ [])
+    ∷ resend (2 ∷ 2 ∷ 3 ∷ []) [] 16 0 (1 ∷ 0 ∷ 1 ∷ 1 ∷ []) ∷ resend (0 ∷ 3 ∷ 3 ∷ []) [] 4 0 (0 ∷ []) ∷ resend (0 ∷ 3 ∷ 3 ∷ []) [] 3 13 []
+    ∷ resend (0 ∷ 3 ∷ 3 ∷ []) [] 5 0 (0 ∷ []) ∷ resend (0 ∷ 3 ∷ 3 ∷ []) [] 104 0 (0 ∷ []) ∷ resend (1 ∷ 3 ∷ 3 ∷ []) [] 4 0 (0 ∷ [])
+    ∷ resend (2 ∷ 3 ∷ 3 ∷ []) [] 4 0 (0 ∷ []) ∷ resend (0 ∷ 4 ∷ 3 ∷ []) [] 4 0 (0 ∷ []) ∷ resend (1 ∷ 4 ∷ 3 ∷ []) [] 4 0 (0 ∷ [])
+    ∷ resend (2 ∷ 4 ∷ 3 ∷ []) [] 4 0 (0 ∷ []) ∷ []) ∷ script table228 (resend (0 ∷ 0 ∷ 0 ∷ []) [] 4 0 (0 ∷ []) ∷ resend (0 ∷ 0 ∷ 0 ∷ []) [] 3 13 []
+    ∷ resend (0 ∷ 0 ∷ 0 ∷ []) [] 5 0 (0 ∷ []) ∷ resend (0 ∷ 0 ∷ 0 ∷ []) [] 104 0 (0 ∷ []) ∷ resend (1 ∷ 0 ∷ 0 ∷ []) [] 16 0 (1 ∷ 0 ∷ 1 ∷ 1 ∷ [])
+    ∷ resend (2 ∷ 0 ∷ 0 ∷ []) [] 28 0 (2 ∷ 0 ∷ 1 ∷ 1 ∷ 0 ∷ 2 ∷ 2 ∷ []) ∷ resend (3 ∷ 0 ∷ 0 ∷ []) [] 40 0 (3 ∷ 0 ∷ 1 ∷ 1 ∷ 0 ∷ 2 ∷ 2 ∷ 0 ∷ 3 ∷ 1 ∷ [])
+    ∷ resend (4 ∷ 0 ∷ 0 ∷ []) [] 40 0 (3 ∷ 0 ∷ 1 ∷ 1 ∷ 0 ∷ 2 ∷ 2 ∷ 0 ∷ 3 ∷ 1 ∷ []) ∷ resend (0 ∷ 1 ∷ 0 ∷ []) [] 4 0 (0 ∷ [])
+    ∷ resend (1 ∷ 1 ∷ 0 ∷ []) [] 16 0 (1 ∷ 0 ∷ 1 ∷ 1 ∷ []) ∷ resend (1 ∷ 1 ∷ 0 ∷ []) [] 15 13 [] ∷ resend (1 ∷ 1 ∷ 0 ∷ []) [] 17 0 (1 ∷ 0 ∷ 1 ∷ 1 ∷ [])
+    ∷ resend (1 ∷ 1 ∷ 0 ∷ []) [] 116 0 (1 ∷ 0 ∷ 1 ∷ 1 ∷ []) ∷ resend (2 ∷ 1 ∷ 0 ∷ []) [] 28 0 (2 ∷ 0 ∷ 1 ∷ 1 ∷ 0 ∷ 2 ∷ 2 ∷ [])
+    ∷ resend (3 ∷ 1 ∷ 0 ∷ []) [] 28 0 (2 ∷ 0 ∷ 1 ∷ 1 ∷ 0 ∷ 2 ∷ 2 ∷ []) ∷ resend (4 ∷ 1 ∷ 0 ∷ []) [] 28 0 (2 ∷ 0 ∷ 1 ∷ 1 ∷ 0 ∷ 2 ∷ 2 ∷ [])
+    ∷ resend (0 ∷ 2 ∷ 0 ∷ []) [] 4 0 (0 ∷ []) ∷ resend (1 ∷ 2 ∷ 0 ∷ []) [] 16 0 (1 ∷ 0 ∷ 1 ∷ 1 ∷ [])
+    ∷ resend (2 ∷ 2 ∷ 0 ∷ []) [] 28 0 (2 ∷ 0 ∷ 1 ∷ 1 ∷ 0 ∷ 2 ∷ 2 ∷ []) ∷ resend (2 ∷ 2 ∷ 0 ∷ []) [] 27 13 []
+    ∷ resend (2 ∷ 2 ∷ 0 ∷ []) [] 29 0 (2 ∷ 0 ∷ 1 ∷ 1 ∷ 0 ∷ 2 ∷ 2 ∷ []) ∷ resend (2 ∷ 2 ∷ 0 ∷ []) [] 128 0 (2 ∷ 0 ∷ 1 ∷ 1 ∷ 0 ∷ 2 ∷ 2 ∷ [])
+    ∷ resend (3 ∷ 2 ∷ 0 ∷ []) [] 28 0 (2 ∷ 0 ∷ 1 ∷ 1 ∷ 0 ∷ 2 ∷ 2 ∷ []) ∷ resend (4 ∷ 2 ∷ 0 ∷ []) [] 28 0 (2 ∷ 0 ∷ 1 ∷ 1 ∷ 0 ∷ 2 ∷ 2 ∷ [])
+    ∷ resend (0 ∷ 3 ∷ 0 ∷ []) [] 16 0 (1 ∷ 1 ∷ 1 ∷ 2 ∷ []) ∷ resend (1 ∷ 3 ∷ 0 ∷ []) [] 28 0 (2 ∷ 0 ∷ 1 ∷ 1 ∷ 1 ∷ 1 ∷ 2 ∷ [])
+    ∷ resend (2 ∷ 3 ∷ 0 ∷ []) [] 40 0 (3 ∷ 0 ∷ 1 ∷ 1 ∷ 0 ∷ 2 ∷ 2 ∷ 1 ∷ 1 ∷ 2 ∷ [])
+    ∷ resend (3 ∷ 3 ∷ 0 ∷ []) [] 40 0 (3 ∷ 0 ∷ 1 ∷ 1 ∷ 0 ∷ 2 ∷ 2 ∷ 1 ∷ 1 ∷ 2 ∷ []) ∷ resend (3 ∷ 3 ∷ 0 ∷ []) [] 39 13 []
+    ∷ resend (3 ∷ 3 ∷ 0 ∷ []) [] 41 0 (3 ∷ 0 ∷ 1 ∷ 1 ∷ 0 ∷ 2 ∷ 2 ∷ 1 ∷ 1 ∷ 2 ∷ [])
+    ∷ resend (3 ∷ 3 ∷ 0 ∷ []) [] 140 0 (3 ∷ 0 ∷ 1 ∷ 1 ∷ 0 ∷ 2 ∷ 2 ∷ 1 ∷ 1 ∷ 2 ∷ [])
+    ∷ resend (4 ∷ 3 ∷ 0 ∷ []) [] 40 0 (3 ∷ 0 ∷ 1 ∷ 1 ∷ 0 ∷ 2 ∷ 2 ∷ 1 ∷ 1 ∷ 2 ∷ []) ∷ resend (0 ∷ 4 ∷ 0 ∷ []) [] 16 0 (1 ∷ 1 ∷ 1 ∷ 2 ∷ [])
+    ∷ resend (1 ∷ 4 ∷ 0 ∷ []) [] 28 0 (2 ∷ 0 ∷ 1 ∷ 1 ∷ 1 ∷ 1 ∷ 2 ∷ []) ∷ resend (2 ∷ 4 ∷ 0 ∷ []) [] 40 0 (3 ∷ 0 ∷ 1 ∷ 1 ∷ 0 ∷ 2 ∷ 2 ∷ 1 ∷ 1 ∷ 2 ∷ [])
+    ∷ resend (3 ∷ 4 ∷ 0 ∷ []) [] 40 0 (3 ∷ 0 ∷ 1 ∷ 1 ∷ 0 ∷ 2 ∷ 2 ∷ 1 ∷ 1 ∷ 2 ∷ [])
+    ∷ resend (4 ∷ 4 ∷ 0 ∷ []) [] 40 0 (3 ∷ 0 ∷ 1 ∷ 1 ∷ 0 ∷ 2 ∷ 2 ∷ 1 ∷ 1 ∷ 2 ∷ []) ∷ resend (4 ∷ 4 ∷ 0 ∷ []) [] 39 13 []
+    ∷ resend (4 ∷ 4 ∷ 0 ∷ []) [] 41 0 (3 ∷ 0 ∷ 1 ∷ 1 ∷ 0 ∷ 2 ∷ 2 ∷ 1 ∷ 1 ∷ 2 ∷ [])
+    ∷ resend (4 ∷ 4 ∷ 0 ∷ []) [] 140 0 (3 ∷ 0 ∷ 1 ∷ 1 ∷ 0 ∷ 2 ∷ 2 ∷ 1 ∷ 1 ∷ 2 ∷ []) ∷ resend (0 ∷ 0 ∷ 1 ∷ []) [] 4 0 (0 ∷ [])
+    ∷ resend (1 ∷ 0 ∷ 1 ∷ []) [] 16 0 (1 ∷ 0 ∷ 1 ∷ 1 ∷ []) ∷ resend (2 ∷ 0 ∷ 1 ∷ []) [] 28 0 (2 ∷ 0 ∷ 1 ∷ 1 ∷ 0 ∷ 2 ∷ 2 ∷ [])
+    ∷ resend (3 ∷ 0 ∷ 1 ∷ []) [] 40 0 (3 ∷ 0 ∷ 1 ∷ 1 ∷ 0 ∷ 2 ∷ 2 ∷ 0 ∷ 3 ∷ 1 ∷ [])
+    ∷ resend (4 ∷ 0 ∷ 1 ∷ []) [] 40 0 (3 ∷ 0 ∷ 1 ∷ 1 ∷ 0 ∷ 2 ∷ 2 ∷ 0 ∷ 3 ∷ 1 ∷ []) ∷ resend (0 ∷ 1 ∷ 1 ∷ []) [] 4 0 (0 ∷ [])
+    ∷ resend (0 ∷ 1 ∷ 1 ∷ []) [] 3 13 [] ∷ resend (0 ∷ 1 ∷ 1 ∷ []) [] 5 0 (0 ∷ []) ∷ resend (0 ∷ 1 ∷ 1 ∷ []) [] 104 0 (0 ∷ [])
+    ∷ resend (1 ∷ 1 ∷ 1 ∷ []) [] 16 0 (1 ∷ 0 ∷ 1 ∷ 1 ∷ []) ∷ resend (2 ∷ 1 ∷ 1 ∷ []) [] 28 0 (2 ∷ 0 ∷ 1 ∷ 1 ∷ 0 ∷ 2 ∷ 2 ∷ [])
+    ∷ resend (3 ∷ 1 ∷ 1 ∷ []) [] 28 0 (2 ∷ 0 ∷ 1 ∷ 1 ∷ 0 ∷ 2 ∷ 2 ∷ []) ∷ resend (4 ∷ 1 ∷ 1 ∷ []) [] 28 0 (2 ∷ 0 ∷ 1 ∷ 1 ∷ 0 ∷ 2 ∷ 2 ∷ [])
+    ∷ resend (0 ∷ 2 ∷ 1 ∷ []) [] 4 0 (0 ∷ []) ∷ resend (1 ∷ 2 ∷ 1 ∷ []) [] 16 0 (1 ∷ 0 ∷ 1 ∷ 1 ∷ []) ∷ resend (1 ∷ 2 ∷ 1 ∷ []) [] 15 13 []
+    ∷ resend (1 ∷ 2 ∷ 1 ∷ []) [] 17 0 (1 ∷ 0 ∷ 1 ∷ 1 ∷ []) ∷ resend (1 ∷ 2 ∷ 1 ∷ []) [] 116 0 (1 ∷ 0 ∷ 1 ∷ 1 ∷ [])
+    ∷ resend (2 ∷ 2 ∷ 1 ∷ []) [] 28 0 (2 ∷ 0 ∷ 1 ∷ 1 ∷ 0 ∷ 2 ∷ 2 ∷ []) ∷ resend (3 ∷ 2 ∷ 1 ∷ []) [] 28 0 (2 ∷ 0 ∷ 1 ∷ 1 ∷ 0 ∷ 2 ∷ 2 ∷ [])
+    ∷ resend (4 ∷ 2 ∷ 1 ∷ []) [] 28 0 (2 ∷ 0 ∷ 1 ∷ 1 ∷ 0 ∷ 2 ∷ 2 ∷ []) ∷ resend (0 ∷ 3 ∷ 1 ∷ []) [] 16 0 (1 ∷ 1 ∷ 1 ∷ 2 ∷ [])
+    ∷ resend (1 ∷ 3 ∷ 1 ∷ []) [] 28 0 (2 ∷ 0 ∷ 1 ∷ 1 ∷ 1 ∷ 1 ∷ 2 ∷ []) ∷ resend (2 ∷ 3 ∷ 1 ∷ []) [] 40 0 (3 ∷ 0 ∷ 1 ∷ 1 ∷ 0 ∷ 2 ∷ 2 ∷ 1 ∷ 1 ∷ 2 ∷ [])
+    ∷ resend (2 ∷ 3 ∷ 1 ∷ []) [] 39 13 [] ∷ resend (2 ∷ 3 ∷ 1 ∷ []) [] 41 0 (3 ∷ 0 ∷ 1 ∷ 1 ∷ 0 ∷ 2 ∷ 2 ∷ 1 ∷ 1 ∷ 2 ∷ [])
+    ∷ resend (2 ∷ 3 ∷ 1 ∷ []) [] 140 0 (3 ∷ 0 ∷ 1 ∷ 1 ∷ 0 ∷ 2 ∷ 2 ∷ 1 ∷ 1 ∷ 2 ∷ [])
+    ∷ resend (3 ∷ 3 ∷ 1 ∷ []) [] 40 0 (3 ∷ 0 ∷ 1 ∷ 1 ∷ 0 ∷ 2 ∷ 2 ∷ 1 ∷ 1 ∷ 2 ∷ [])
+    ∷ resend (4 ∷ 3 ∷ 1 ∷ []) [] 40 0 (3 ∷ 0 ∷ 1 ∷ 1 ∷ 0 ∷ 2 ∷ 2 ∷ 1 ∷ 1 ∷ 2 ∷ []) ∷ resend (0 ∷ 4 ∷ 1 ∷ []) [] 16 0 (1 ∷ 1 ∷ 1 ∷ 2 ∷ [])
+    ∷ resend (1 ∷ 4 ∷ 1 ∷ []) [] 28 0 (2 ∷ 0 ∷ 1 ∷ 1 ∷ 1 ∷ 1 ∷ 2 ∷ []) ∷ resend (2 ∷ 4 ∷ 1 ∷ []) [] 40 0 (3 ∷ 0 ∷ 1 ∷ 1 ∷ 0 ∷ 2 ∷ 2 ∷ 1 ∷ 1 ∷ 2 ∷ [])
+    ∷ resend (3 ∷ 4 ∷ 1 ∷ []) [] 40 0 (3 ∷ 0 ∷ 1 ∷ 1 ∷ 0 ∷ 2 ∷ 2 ∷ 1 ∷ 1 ∷ 2 ∷ []) ∷ resend (3 ∷ 4 ∷ 1 ∷ []) [] 39 13 []
+    ∷ resend (3 ∷ 4 ∷ 1 ∷ []) [] 41 0 (3 ∷ 0 ∷ 1 ∷ 1 ∷ 0 ∷ 2 ∷ 2 ∷ 1 ∷ 1 ∷ 2 ∷ [])
+    ∷ resend (3 ∷ 4 ∷ 1 ∷ []) [] 140 0 (3 ∷ 0 ∷ 1 ∷ 1 ∷ 0 ∷ 2 ∷ 2 ∷ 1 ∷ 1 ∷ 2 ∷ [])
+    ∷ resend (4 ∷ 4 ∷ 1 ∷ []) [] 40 0 (3 ∷ 0 ∷ 1 ∷ 1 ∷ 0 ∷ 2 ∷ 2 ∷ 1 ∷ 1 ∷ 2 ∷ []) ∷ resend (0 ∷ 0 ∷ 2 ∷ []) [] 4 0 (0 ∷ [])
+    ∷ resend (1 ∷ 0 ∷ 2 ∷ []) [] 16 0 (1 ∷ 0 ∷ 1 ∷ 1 ∷ []) ∷ resend (2 ∷ 0 ∷ 2 ∷ []) [] 28 0 (2 ∷ 0 ∷ 1 ∷ 1 ∷ 0 ∷ 2 ∷ 2 ∷ [])
+    ∷ resend (3 ∷ 0 ∷ 2 ∷ []) [] 40 0 (3 ∷ 0 ∷ 1 ∷ 1 ∷ 0 ∷ 2 ∷ 2 ∷ 0 ∷ 3 ∷ 1 ∷ [])
+    ∷ resend (4 ∷ 0 ∷ 2 ∷ []) [] 40 0 (3 ∷ 0 ∷ 1 ∷ 1 ∷ 0 ∷ 2 ∷ 2 ∷ 0 ∷ 3 ∷ 1 ∷ []) ∷ resend (4 ∷ 0 ∷ 2 ∷ []) [] 39 13 []
+    ∷ resend (4 ∷ 0 ∷ 2 ∷ []) [] 41 0 (3 ∷ 0 ∷ 1 ∷ 1 ∷ 0 ∷ 2 ∷ 2 ∷ 0 ∷ 3 ∷ 1 ∷ [])
+    ∷ resend (4 ∷ 0 ∷ 2 ∷ []) [] 140 0 (3 ∷ 0 ∷ 1 ∷ 1 ∷ 0 ∷ 2 ∷ 2 ∷ 0 ∷ 3 ∷ 1 ∷ []) ∷ resend (0 ∷ 1 ∷ 2 ∷ []) [] 4 0 (0 ∷ [])
+    ∷ resend (1 ∷ 1 ∷ 2 ∷ []) [] 16 0 (1 ∷ 0 ∷ 1 ∷ 1 ∷ []) ∷ resend (2 ∷ 1 ∷ 2 ∷ []) [] 28 0 (2 ∷ 0 ∷ 1 ∷ 1 ∷ 0 ∷ 2 ∷ 2 ∷ [])
+    ∷ resend (3 ∷ 1 ∷ 2 ∷ []) [] 28 0 (2 ∷ 0 ∷ 1 ∷ 1 ∷ 0 ∷ 2 ∷ 2 ∷ []) ∷ resend (4 ∷ 1 ∷ 2 ∷ []) [] 28 0 (2 ∷ 0 ∷ 1 ∷ 1 ∷ 0 ∷ 2 ∷ 2 ∷ [])
+    ∷ resend (0 ∷ 2 ∷ 2 ∷ []) [] 4 0 (0 ∷ []) ∷ resend (0 ∷ 2 ∷ 2 ∷ []) [] 3 13 [] ∷ resend (0 ∷ 2 ∷ 2 ∷ []) [] 5 0 (0 ∷ [])
+    ∷ resend (0 ∷ 2 ∷ 2 ∷ []) [] 104 0 (0 ∷ []) ∷ resend (1 ∷ 2 ∷ 2 ∷ []) [] 16 0 (1 ∷ 0 ∷ 1 ∷ 1 ∷ [])
+    ∷ resend (2 ∷ 2 ∷ 2 ∷ []) [] 28 0 (2 ∷ 0 ∷ 1 ∷ 1 ∷ 0 ∷ 2 ∷ 2 ∷ []) ∷ resend (3 ∷ 2 ∷ 2 ∷ []) [] 28 0 (2 ∷ 0 ∷ 1 ∷ 1 ∷ 0 ∷ 2 ∷ 2 ∷ [])
+    ∷ resend (4 ∷ 2 ∷ 2 ∷ []) [] 28 0 (2 ∷ 0 ∷ 1 ∷ 1 ∷ 0 ∷ 2 ∷ 2 ∷ []) ∷ resend (0 ∷ 3 ∷ 2 ∷ []) [] 4 0 (0 ∷ [])
+    ∷ resend (1 ∷ 3 ∷ 2 ∷ []) [] 16 0 (1 ∷ 0 ∷ 1 ∷ 1 ∷ []) ∷ resend (1 ∷ 3 ∷ 2 ∷ []) [] 15 13 [] ∷ resend (1 ∷ 3 ∷ 2 ∷ []) [] 17 0 (1 ∷ 0 ∷ 1 ∷ 1 ∷ [])
+    ∷ resend (1 ∷ 3 ∷ 2 ∷ []) [] 116 0 (1 ∷ 0 ∷ 1 ∷ 1 ∷ []) ∷ resend (2 ∷ 3 ∷ 2 ∷ []) [] 28 0 (2 ∷ 0 ∷ 1 ∷ 1 ∷ 0 ∷ 2 ∷ 2 ∷ [])
+    ∷ resend (3 ∷ 3 ∷ 2 ∷ []) [] 28 0 (2 ∷ 0 ∷ 1 ∷ 1 ∷ 0 ∷ 2 ∷ 2 ∷ []) ∷ resend (4 ∷ 3 ∷ 2 ∷ []) [] 28 0 (2 ∷ 0 ∷ 1 ∷ 1 ∷ 0 ∷ 2 ∷ 2 ∷ [])
+    ∷ resend (0 ∷ 4 ∷ 2 ∷ []) [] 4 0 (0 ∷ []) ∷ resend (1 ∷ 4 ∷ 2 ∷ []) [] 16 0 (1 ∷ 0 ∷ 1 ∷ 1 ∷ [])
+    ∷ resend (2 ∷ 4 ∷ 2 ∷ []) [] 28 0 (2 ∷ 0 ∷ 1 ∷ 1 ∷ 0 ∷ 2 ∷ 2 ∷ []) ∷ resend (2 ∷ 4 ∷ 2 ∷ []) [] 27 13 []
+    ∷ resend (2 ∷ 4 ∷ 2 ∷ []) [] 29 0 (2 ∷ 0 ∷ 1 ∷ 1 ∷ 0 ∷ 2 ∷ 2 ∷ []) ∷ resend (2 ∷ 4 ∷ 2 ∷ []) [] 128 0 (2 ∷ 0 ∷ 1 ∷ 1 ∷ 0 ∷ 2 ∷ 2 ∷ [])
+    ∷ resend (3 ∷ 4 ∷ 2 ∷ []) [] 28 0 (2 ∷ 0 ∷ 1 ∷ 1 ∷ 0 ∷ 2 ∷ 2 ∷ []) ∷ resend (4 ∷ 4 ∷ 2 ∷ []) [] 28 0 (2 ∷ 0 ∷ 1 ∷ 1 ∷ 0 ∷ 2 ∷ 2 ∷ []) ∷ []) ∷ []
+
+pub resendCuts-agree : Agree resendCuts
+unfolding freshOn stepOn lineOn failedOn resendOn layout decoded wellLaid word putWord putWords failureAnswer failureLine rounds round ones onesIn inTransit
+resendCuts-agree = refl
+
+-- The rows of resend, in order.
+abbrev resendRows : List Script
+resendRows = script table55 (resend [] [] 0 12 [] ∷ resend [] [] 100 12 [] ∷ resend (0 ∷ []) [] 0 12 [] ∷ resend (0 ∷ []) [] 100 12 []
+    ∷ resend (0 ∷ []) (0 ∷ 0 ∷ 0 ∷ []) 0 12 [] ∷ resend (0 ∷ []) (0 ∷ 0 ∷ 0 ∷ []) 100 12 [] ∷ resend (0 ∷ 0 ∷ []) (0 ∷ []) 0 12 []
+    ∷ resend (0 ∷ 0 ∷ []) (0 ∷ []) 100 12 [] ∷ resend (0 ∷ 0 ∷ 0 ∷ []) [] 0 12 [] ∷ resend (0 ∷ 0 ∷ 0 ∷ []) [] 100 12 [] ∷ resend (3 ∷ 0 ∷ []) [] 0 12 []
+    ∷ resend (3 ∷ 0 ∷ []) [] 100 12 [] ∷ resend (0 ∷ 2 ∷ []) [] 0 12 [] ∷ resend (0 ∷ 2 ∷ []) [] 100 12 [] ∷ resend (2 ∷ 2 ∷ []) [] 0 12 []
+    ∷ resend (2 ∷ 2 ∷ []) [] 100 12 [] ∷ resend (3 ∷ 1 ∷ []) [] 0 12 [] ∷ resend (3 ∷ 1 ∷ []) [] 100 12 [] ∷ resend (16777216 ∷ 0 ∷ []) [] 0 12 []
+    ∷ resend (16777216 ∷ 0 ∷ []) [] 100 12 [] ∷ resend (0 ∷ 16777216 ∷ []) [] 0 12 [] ∷ resend (0 ∷ 16777216 ∷ []) [] 100 12 []
+    ∷ resend (2147483648 ∷ 1 ∷ []) [] 0 12 [] ∷ resend (2147483648 ∷ 1 ∷ []) [] 100 12 [] ∷ resend (0 ∷ 4294967295 ∷ []) [] 0 12 []
+    ∷ resend (0 ∷ 4294967295 ∷ []) [] 100 12 [] ∷ resend (0 ∷ 0 ∷ []) [] 4 0 (0 ∷ []) ∷ resend (0 ∷ 0 ∷ []) [] 3 13 [] ∷ resend (0 ∷ 0 ∷ []) [] 5 0 (0 ∷ [])
+    ∷ resend (0 ∷ 0 ∷ []) [] 104 0 (0 ∷ []) ∷ resend (0 ∷ 0 ∷ []) [] 0 13 [] ∷ resend (0 ∷ 0 ∷ []) [] 3 13 []
+    ∷ resend (2 ∷ 0 ∷ []) [] 16 0 (1 ∷ 0 ∷ 1 ∷ 1 ∷ []) ∷ resend (2 ∷ 0 ∷ []) [] 15 13 [] ∷ resend (2 ∷ 0 ∷ []) [] 17 0 (1 ∷ 0 ∷ 1 ∷ 1 ∷ [])
+    ∷ resend (2 ∷ 0 ∷ []) [] 116 0 (1 ∷ 0 ∷ 1 ∷ 1 ∷ []) ∷ resend (2 ∷ 0 ∷ []) [] 0 13 [] ∷ resend (2 ∷ 0 ∷ []) [] 3 13 []
+    ∷ resend (2 ∷ 1 ∷ []) [] 4 0 (0 ∷ []) ∷ resend (2 ∷ 1 ∷ []) [] 3 13 [] ∷ resend (2 ∷ 1 ∷ []) [] 5 0 (0 ∷ []) ∷ resend (2 ∷ 1 ∷ []) [] 104 0 (0 ∷ [])
+    ∷ resend (2 ∷ 1 ∷ []) [] 0 13 [] ∷ resend (2 ∷ 1 ∷ []) [] 3 13 [] ∷ resend (0 ∷ 1 ∷ []) [] 4 0 (0 ∷ []) ∷ resend (0 ∷ 1 ∷ []) [] 3 13 []
+    ∷ resend (0 ∷ 1 ∷ []) [] 5 0 (0 ∷ []) ∷ resend (0 ∷ 1 ∷ []) [] 104 0 (0 ∷ []) ∷ resend (0 ∷ 1 ∷ []) [] 0 13 [] ∷ resend (0 ∷ 1 ∷ []) [] 3 13 [] ∷ []) ∷ []
+
+pub resendRows-agree : Agree resendRows
+unfolding freshOn stepOn lineOn failedOn resendOn layout decoded wellLaid word putWord putWords failureAnswer failureLine rounds round ones onesIn inTransit
+resendRows-agree = refl
+
+-- Resend on the tables that the runs left.
+abbrev resendMade : List Script
+resendMade = script table85 (resend (0 ∷ []) [] 4 0 (0 ∷ []) ∷ resend (0 ∷ []) [] 3 13 [] ∷ resend (1 ∷ []) [] 4 0 (0 ∷ []) ∷ resend (1 ∷ []) [] 3 13 []
+    ∷ resend (1 ∷ []) [] 5 0 (0 ∷ []) ∷ resend (1 ∷ []) [] 4 0 (0 ∷ []) ∷ resend (1 ∷ []) [] 5 0 (0 ∷ []) ∷ resend (1 ∷ []) [] 4 0 (0 ∷ [])
+    ∷ resend (1 ∷ []) [] 5 0 (0 ∷ []) ∷ resend (2 ∷ []) [] 4 12 [] ∷ []) ∷ script table87 (resend (0 ∷ []) [] 4 0 (0 ∷ []) ∷ resend (0 ∷ []) [] 3 13 []
+    ∷ resend (1 ∷ []) [] 4 0 (0 ∷ []) ∷ resend (1 ∷ []) [] 3 13 [] ∷ resend (1 ∷ []) [] 5 0 (0 ∷ []) ∷ resend (1 ∷ []) [] 4 0 (0 ∷ [])
+    ∷ resend (1 ∷ []) [] 0 13 [] ∷ resend (0 ∷ []) [] 4 0 (0 ∷ []) ∷ resend (0 ∷ []) [] 5 0 (0 ∷ []) ∷ resend (2 ∷ []) [] 4 12 [] ∷ [])
+    ∷ script table90 (resend (0 ∷ 0 ∷ []) [] 4 0 (0 ∷ []) ∷ resend (0 ∷ 0 ∷ []) [] 3 13 [] ∷ resend (1 ∷ 1 ∷ []) [] 4 0 (0 ∷ [])
+    ∷ resend (1 ∷ 1 ∷ []) [] 3 13 [] ∷ resend (1 ∷ 1 ∷ []) [] 5 0 (0 ∷ []) ∷ resend (0 ∷ 1 ∷ []) [] 4 0 (0 ∷ []) ∷ resend (0 ∷ 1 ∷ []) [] 4 0 (0 ∷ [])
+    ∷ resend (0 ∷ 1 ∷ []) [] 3 13 [] ∷ resend (1 ∷ 1 ∷ []) [] 4 0 (0 ∷ []) ∷ resend (1 ∷ 1 ∷ []) [] 104 0 (0 ∷ []) ∷ resend (1 ∷ 2 ∷ []) [] 4 12 [] ∷ [])
+    ∷ script table97 (resend (0 ∷ 0 ∷ []) [] 4 0 (0 ∷ []) ∷ resend (0 ∷ 0 ∷ []) [] 3 13 [] ∷ resend (3 ∷ 3 ∷ []) [] 28 0 (2 ∷ 0 ∷ 3 ∷ 1 ∷ 1 ∷ 1 ∷ 0 ∷ [])
+    ∷ resend (3 ∷ 3 ∷ []) [] 27 13 [] ∷ resend (3 ∷ 3 ∷ []) [] 29 0 (2 ∷ 0 ∷ 3 ∷ 1 ∷ 1 ∷ 1 ∷ 0 ∷ []) ∷ resend (0 ∷ 3 ∷ []) [] 16 0 (1 ∷ 1 ∷ 1 ∷ 0 ∷ [])
+    ∷ resend (2 ∷ 0 ∷ []) [] 28 0 (2 ∷ 0 ∷ 1 ∷ 1 ∷ 0 ∷ 2 ∷ 1 ∷ []) ∷ resend (2 ∷ 0 ∷ []) [] 29 0 (2 ∷ 0 ∷ 1 ∷ 1 ∷ 0 ∷ 2 ∷ 1 ∷ [])
+    ∷ resend (3 ∷ 0 ∷ []) [] 40 0 (3 ∷ 0 ∷ 1 ∷ 1 ∷ 0 ∷ 2 ∷ 1 ∷ 0 ∷ 3 ∷ 1 ∷ []) ∷ resend (3 ∷ 0 ∷ []) [] 140 0 (3 ∷ 0 ∷ 1 ∷ 1 ∷ 0 ∷ 2 ∷ 1 ∷ 0 ∷ 3 ∷ 1 ∷ [])
+    ∷ resend (4 ∷ 3 ∷ []) [] 4 12 [] ∷ []) ∷ script table105 (resend (0 ∷ 0 ∷ []) [] 4 0 (0 ∷ []) ∷ resend (0 ∷ 0 ∷ []) [] 3 13 []
+    ∷ resend (4 ∷ 4 ∷ []) [] 4 0 (0 ∷ []) ∷ resend (4 ∷ 4 ∷ []) [] 3 13 [] ∷ resend (4 ∷ 4 ∷ []) [] 5 0 (0 ∷ []) ∷ resend (0 ∷ 4 ∷ []) [] 4 0 (0 ∷ [])
+    ∷ resend (0 ∷ 0 ∷ []) [] 4 0 (0 ∷ []) ∷ resend (0 ∷ 0 ∷ []) [] 3 13 [] ∷ resend (2 ∷ 4 ∷ []) [] 4 0 (0 ∷ []) ∷ resend (2 ∷ 4 ∷ []) [] 0 13 []
+    ∷ resend (4 ∷ 5 ∷ []) [] 4 12 [] ∷ []) ∷ script table116 (resend (0 ∷ 0 ∷ []) [] 4 0 (0 ∷ []) ∷ resend (0 ∷ 0 ∷ []) [] 3 13 []
+    ∷ resend (5 ∷ 5 ∷ []) [] 4 0 (0 ∷ []) ∷ resend (5 ∷ 5 ∷ []) [] 3 13 [] ∷ resend (5 ∷ 5 ∷ []) [] 5 0 (0 ∷ []) ∷ resend (0 ∷ 5 ∷ []) [] 4 0 (0 ∷ [])
+    ∷ resend (3 ∷ 5 ∷ []) [] 4 0 (0 ∷ []) ∷ resend (3 ∷ 5 ∷ []) [] 104 0 (0 ∷ []) ∷ resend (1 ∷ 3 ∷ []) [] 4 0 (0 ∷ []) ∷ resend (1 ∷ 3 ∷ []) [] 5 0 (0 ∷ [])
+    ∷ resend (6 ∷ 5 ∷ []) [] 4 12 [] ∷ []) ∷ script table127 (resend (0 ∷ 0 ∷ []) [] 4 0 (0 ∷ []) ∷ resend (0 ∷ 0 ∷ []) [] 3 13 []
+    ∷ resend (6 ∷ 6 ∷ []) [] 4 0 (0 ∷ []) ∷ resend (6 ∷ 6 ∷ []) [] 3 13 [] ∷ resend (6 ∷ 6 ∷ []) [] 5 0 (0 ∷ [])
+    ∷ resend (6 ∷ 0 ∷ []) [] 28 0 (2 ∷ 0 ∷ 1 ∷ 1 ∷ 0 ∷ 2 ∷ 1 ∷ []) ∷ resend (0 ∷ 3 ∷ []) [] 16 0 (1 ∷ 1 ∷ 1 ∷ 0 ∷ []) ∷ resend (0 ∷ 3 ∷ []) [] 15 13 []
+    ∷ resend (0 ∷ 0 ∷ []) [] 4 0 (0 ∷ []) ∷ resend (0 ∷ 0 ∷ []) [] 3 13 [] ∷ resend (7 ∷ 6 ∷ []) [] 4 12 [] ∷ [])
+    ∷ script table134 (resend (0 ∷ 0 ∷ 0 ∷ []) [] 4 0 (0 ∷ []) ∷ resend (0 ∷ 0 ∷ 0 ∷ []) [] 3 13 [] ∷ resend (2 ∷ 2 ∷ 2 ∷ []) [] 16 0 (1 ∷ 0 ∷ 2 ∷ 1 ∷ [])
+    ∷ resend (2 ∷ 2 ∷ 2 ∷ []) [] 15 13 [] ∷ resend (2 ∷ 2 ∷ 2 ∷ []) [] 17 0 (1 ∷ 0 ∷ 2 ∷ 1 ∷ [])
+    ∷ resend (2 ∷ 2 ∷ 0 ∷ []) [] 28 0 (2 ∷ 0 ∷ 1 ∷ 2 ∷ 0 ∷ 2 ∷ 1 ∷ []) ∷ resend (1 ∷ 1 ∷ 1 ∷ []) [] 16 0 (1 ∷ 0 ∷ 1 ∷ 2 ∷ [])
+    ∷ resend (1 ∷ 1 ∷ 1 ∷ []) [] 17 0 (1 ∷ 0 ∷ 1 ∷ 2 ∷ []) ∷ resend (2 ∷ 2 ∷ 0 ∷ []) [] 28 0 (2 ∷ 0 ∷ 1 ∷ 2 ∷ 0 ∷ 2 ∷ 1 ∷ [])
+    ∷ resend (2 ∷ 2 ∷ 0 ∷ []) [] 24 13 [] ∷ resend (2 ∷ 2 ∷ 3 ∷ []) [] 4 12 [] ∷ []) ∷ script table142 (resend (0 ∷ 0 ∷ 0 ∷ []) [] 4 0 (0 ∷ [])
+    ∷ resend (0 ∷ 0 ∷ 0 ∷ []) [] 3 13 [] ∷ resend (3 ∷ 3 ∷ 1 ∷ []) [] 28 0 (2 ∷ 0 ∷ 1 ∷ 1 ∷ 0 ∷ 2 ∷ 1 ∷ []) ∷ resend (3 ∷ 3 ∷ 1 ∷ []) [] 27 13 []
+    ∷ resend (3 ∷ 3 ∷ 1 ∷ []) [] 29 0 (2 ∷ 0 ∷ 1 ∷ 1 ∷ 0 ∷ 2 ∷ 1 ∷ []) ∷ resend (3 ∷ 0 ∷ 1 ∷ []) [] 28 0 (2 ∷ 0 ∷ 1 ∷ 1 ∷ 0 ∷ 2 ∷ 1 ∷ [])
+    ∷ resend (0 ∷ 0 ∷ 0 ∷ []) [] 4 0 (0 ∷ []) ∷ resend (0 ∷ 0 ∷ 0 ∷ []) [] 0 13 [] ∷ resend (3 ∷ 0 ∷ 0 ∷ []) [] 28 0 (2 ∷ 0 ∷ 1 ∷ 1 ∷ 0 ∷ 2 ∷ 1 ∷ [])
+    ∷ resend (3 ∷ 0 ∷ 0 ∷ []) [] 128 0 (2 ∷ 0 ∷ 1 ∷ 1 ∷ 0 ∷ 2 ∷ 1 ∷ []) ∷ resend (3 ∷ 4 ∷ 1 ∷ []) [] 4 12 [] ∷ [])
+    ∷ script table153 (resend (0 ∷ 0 ∷ 0 ∷ []) [] 4 0 (0 ∷ []) ∷ resend (0 ∷ 0 ∷ 0 ∷ []) [] 3 13 []
+    ∷ resend (2 ∷ 4 ∷ 4 ∷ []) [] 52 0 (4 ∷ 0 ∷ 1 ∷ 1 ∷ 1 ∷ 1 ∷ 2 ∷ 1 ∷ 2 ∷ 2 ∷ 2 ∷ 1 ∷ 0 ∷ []) ∷ resend (2 ∷ 4 ∷ 4 ∷ []) [] 51 13 []
+    ∷ resend (2 ∷ 4 ∷ 4 ∷ []) [] 53 0 (4 ∷ 0 ∷ 1 ∷ 1 ∷ 1 ∷ 1 ∷ 2 ∷ 1 ∷ 2 ∷ 2 ∷ 2 ∷ 1 ∷ 0 ∷ [])
+    ∷ resend (2 ∷ 4 ∷ 0 ∷ []) [] 40 0 (3 ∷ 0 ∷ 1 ∷ 1 ∷ 1 ∷ 1 ∷ 2 ∷ 1 ∷ 2 ∷ 2 ∷ [])
+    ∷ resend (1 ∷ 0 ∷ 4 ∷ []) [] 52 0 (4 ∷ 0 ∷ 1 ∷ 1 ∷ 2 ∷ 1 ∷ 0 ∷ 2 ∷ 2 ∷ 1 ∷ 2 ∷ 3 ∷ 0 ∷ [])
+    ∷ resend (1 ∷ 0 ∷ 4 ∷ []) [] 53 0 (4 ∷ 0 ∷ 1 ∷ 1 ∷ 2 ∷ 1 ∷ 0 ∷ 2 ∷ 2 ∷ 1 ∷ 2 ∷ 3 ∷ 0 ∷ []) ∷ resend (0 ∷ 0 ∷ 0 ∷ []) [] 4 0 (0 ∷ [])
+    ∷ resend (0 ∷ 0 ∷ 0 ∷ []) [] 3 13 [] ∷ resend (3 ∷ 4 ∷ 4 ∷ []) [] 4 12 [] ∷ []) ∷ script table169 (resend (0 ∷ 0 ∷ 0 ∷ []) [] 4 0 (0 ∷ [])
+    ∷ resend (0 ∷ 0 ∷ 0 ∷ []) [] 3 13 [] ∷ resend (5 ∷ 5 ∷ 5 ∷ []) [] 52 0 (4 ∷ 0 ∷ 2 ∷ 1 ∷ 0 ∷ 3 ∷ 1 ∷ 2 ∷ 1 ∷ 1 ∷ 2 ∷ 2 ∷ 0 ∷ [])
+    ∷ resend (5 ∷ 5 ∷ 5 ∷ []) [] 51 13 [] ∷ resend (5 ∷ 5 ∷ 5 ∷ []) [] 53 0 (4 ∷ 0 ∷ 2 ∷ 1 ∷ 0 ∷ 3 ∷ 1 ∷ 2 ∷ 1 ∷ 1 ∷ 2 ∷ 2 ∷ 0 ∷ [])
+    ∷ resend (5 ∷ 0 ∷ 5 ∷ []) [] 52 0 (4 ∷ 0 ∷ 2 ∷ 1 ∷ 0 ∷ 3 ∷ 1 ∷ 2 ∷ 1 ∷ 1 ∷ 2 ∷ 2 ∷ 0 ∷ [])
+    ∷ resend (1 ∷ 5 ∷ 5 ∷ []) [] 40 0 (3 ∷ 1 ∷ 1 ∷ 0 ∷ 2 ∷ 1 ∷ 1 ∷ 2 ∷ 2 ∷ 0 ∷ []) ∷ resend (1 ∷ 5 ∷ 5 ∷ []) [] 39 13 []
+    ∷ resend (3 ∷ 5 ∷ 5 ∷ []) [] 40 0 (3 ∷ 0 ∷ 2 ∷ 1 ∷ 2 ∷ 1 ∷ 1 ∷ 2 ∷ 2 ∷ 0 ∷ [])
+    ∷ resend (3 ∷ 5 ∷ 5 ∷ []) [] 41 0 (3 ∷ 0 ∷ 2 ∷ 1 ∷ 2 ∷ 1 ∷ 1 ∷ 2 ∷ 2 ∷ 0 ∷ []) ∷ resend (5 ∷ 5 ∷ 6 ∷ []) [] 4 12 [] ∷ [])
+    ∷ script table184 (resend (0 ∷ 0 ∷ 0 ∷ []) [] 4 0 (0 ∷ []) ∷ resend (0 ∷ 0 ∷ 0 ∷ []) [] 3 13 []
+    ∷ resend (6 ∷ 5 ∷ 6 ∷ []) [] 52 0 (4 ∷ 0 ∷ 2 ∷ 2 ∷ 1 ∷ 1 ∷ 0 ∷ 1 ∷ 2 ∷ 0 ∷ 2 ∷ 3 ∷ 1 ∷ []) ∷ resend (6 ∷ 5 ∷ 6 ∷ []) [] 51 13 []
+    ∷ resend (6 ∷ 5 ∷ 6 ∷ []) [] 53 0 (4 ∷ 0 ∷ 2 ∷ 2 ∷ 1 ∷ 1 ∷ 0 ∷ 1 ∷ 2 ∷ 0 ∷ 2 ∷ 3 ∷ 1 ∷ [])
+    ∷ resend (6 ∷ 5 ∷ 0 ∷ []) [] 52 0 (4 ∷ 0 ∷ 2 ∷ 2 ∷ 0 ∷ 3 ∷ 2 ∷ 1 ∷ 1 ∷ 0 ∷ 1 ∷ 2 ∷ 0 ∷ [])
+    ∷ resend (6 ∷ 5 ∷ 5 ∷ []) [] 64 0 (5 ∷ 0 ∷ 2 ∷ 2 ∷ 0 ∷ 3 ∷ 2 ∷ 1 ∷ 1 ∷ 0 ∷ 1 ∷ 2 ∷ 0 ∷ 2 ∷ 3 ∷ 1 ∷ []) ∷ resend (6 ∷ 5 ∷ 5 ∷ []) [] 60 13 []
+    ∷ resend (6 ∷ 5 ∷ 6 ∷ []) [] 52 0 (4 ∷ 0 ∷ 2 ∷ 2 ∷ 1 ∷ 1 ∷ 0 ∷ 1 ∷ 2 ∷ 0 ∷ 2 ∷ 3 ∷ 1 ∷ []) ∷ resend (6 ∷ 5 ∷ 6 ∷ []) [] 51 13 []
+    ∷ resend (7 ∷ 5 ∷ 6 ∷ []) [] 4 12 [] ∷ []) ∷ []
+
+pub resendMade-agree : Agree resendMade
+unfolding freshOn stepOn lineOn failedOn resendOn layout decoded wellLaid word putWord putWords failureAnswer failureLine rounds round ones onesIn inTransit
+resendMade-agree = refl
+
+-- Resend on the well laid tables that no run makes.
+abbrev resendUnmade : List Script
+resendUnmade = script table84 (resend (0 ∷ []) [] 4 0 (0 ∷ []) ∷ resend (0 ∷ []) [] 3 13 [] ∷ resend (0 ∷ []) [] 4 0 (0 ∷ []) ∷ resend (0 ∷ []) [] 3 13 []
+    ∷ resend (0 ∷ []) [] 5 0 (0 ∷ []) ∷ resend (0 ∷ []) [] 4 0 (0 ∷ []) ∷ resend (0 ∷ []) [] 104 0 (0 ∷ []) ∷ resend (0 ∷ []) [] 4 0 (0 ∷ [])
+    ∷ resend (0 ∷ []) [] 5 0 (0 ∷ []) ∷ resend (1 ∷ []) [] 4 12 [] ∷ []) ∷ script table185 (resend (0 ∷ []) [] 4 0 (0 ∷ []) ∷ resend (0 ∷ []) [] 3 13 []
+    ∷ resend (3 ∷ []) [] 4 0 (0 ∷ []) ∷ resend (3 ∷ []) [] 3 13 [] ∷ resend (3 ∷ []) [] 5 0 (0 ∷ []) ∷ resend (1 ∷ []) [] 4 0 (0 ∷ [])
+    ∷ resend (1 ∷ []) [] 104 0 (0 ∷ []) ∷ resend (2 ∷ []) [] 4 0 (0 ∷ []) ∷ resend (2 ∷ []) [] 5 0 (0 ∷ []) ∷ resend (4 ∷ []) [] 4 12 [] ∷ [])
+    ∷ script table186 (resend (0 ∷ 0 ∷ []) [] 4 0 (0 ∷ []) ∷ resend (0 ∷ 0 ∷ []) [] 3 13 [] ∷ resend (1 ∷ 0 ∷ []) [] 4 0 (0 ∷ [])
+    ∷ resend (1 ∷ 0 ∷ []) [] 3 13 [] ∷ resend (1 ∷ 0 ∷ []) [] 5 0 (0 ∷ []) ∷ resend (1 ∷ 0 ∷ []) [] 4 0 (0 ∷ []) ∷ resend (1 ∷ 0 ∷ []) [] 104 0 (0 ∷ [])
+    ∷ resend (1 ∷ 0 ∷ []) [] 4 0 (0 ∷ []) ∷ resend (1 ∷ 0 ∷ []) [] 104 0 (0 ∷ []) ∷ resend (2 ∷ 0 ∷ []) [] 4 12 [] ∷ [])
+    ∷ script table188 (resend (0 ∷ 0 ∷ []) [] 4 0 (0 ∷ []) ∷ resend (0 ∷ 0 ∷ []) [] 3 13 [] ∷ resend (2 ∷ 1 ∷ []) [] 4 0 (0 ∷ [])
+    ∷ resend (2 ∷ 1 ∷ []) [] 3 13 [] ∷ resend (2 ∷ 1 ∷ []) [] 5 0 (0 ∷ []) ∷ resend (0 ∷ 1 ∷ []) [] 4 0 (0 ∷ []) ∷ resend (0 ∷ 0 ∷ []) [] 4 0 (0 ∷ [])
+    ∷ resend (0 ∷ 0 ∷ []) [] 5 0 (0 ∷ []) ∷ resend (1 ∷ 1 ∷ []) [] 4 0 (0 ∷ []) ∷ resend (1 ∷ 1 ∷ []) [] 0 13 [] ∷ resend (2 ∷ 2 ∷ []) [] 4 12 [] ∷ [])
+    ∷ script table190 (resend (0 ∷ 0 ∷ []) [] 4 0 (0 ∷ []) ∷ resend (0 ∷ 0 ∷ []) [] 3 13 [] ∷ resend (2 ∷ 2 ∷ []) [] 4 0 (0 ∷ [])
+    ∷ resend (2 ∷ 2 ∷ []) [] 3 13 [] ∷ resend (2 ∷ 2 ∷ []) [] 5 0 (0 ∷ []) ∷ resend (2 ∷ 0 ∷ []) [] 16 0 (1 ∷ 0 ∷ 1 ∷ 1 ∷ [])
+    ∷ resend (1 ∷ 0 ∷ []) [] 4 0 (0 ∷ []) ∷ resend (1 ∷ 0 ∷ []) [] 3 13 [] ∷ resend (1 ∷ 2 ∷ []) [] 4 0 (0 ∷ []) ∷ resend (1 ∷ 2 ∷ []) [] 104 0 (0 ∷ [])
+    ∷ resend (2 ∷ 3 ∷ []) [] 4 12 [] ∷ []) ∷ script table193 (resend (0 ∷ 0 ∷ []) [] 4 0 (0 ∷ []) ∷ resend (0 ∷ 0 ∷ []) [] 3 13 []
+    ∷ resend (3 ∷ 4 ∷ []) [] 16 0 (1 ∷ 1 ∷ 1 ∷ 0 ∷ []) ∷ resend (3 ∷ 4 ∷ []) [] 15 13 [] ∷ resend (3 ∷ 4 ∷ []) [] 17 0 (1 ∷ 1 ∷ 1 ∷ 0 ∷ [])
+    ∷ resend (3 ∷ 0 ∷ []) [] 4 0 (0 ∷ []) ∷ resend (1 ∷ 4 ∷ []) [] 28 0 (2 ∷ 1 ∷ 1 ∷ 0 ∷ 1 ∷ 2 ∷ 0 ∷ [])
+    ∷ resend (1 ∷ 4 ∷ []) [] 128 0 (2 ∷ 1 ∷ 1 ∷ 0 ∷ 1 ∷ 2 ∷ 0 ∷ []) ∷ resend (0 ∷ 3 ∷ []) [] 16 0 (1 ∷ 1 ∷ 1 ∷ 0 ∷ []) ∷ resend (0 ∷ 3 ∷ []) [] 15 13 []
+    ∷ resend (4 ∷ 4 ∷ []) [] 4 12 [] ∷ []) ∷ script table195 (resend (0 ∷ 0 ∷ []) [] 4 0 (0 ∷ []) ∷ resend (0 ∷ 0 ∷ []) [] 3 13 []
+    ∷ resend (1 ∷ 4 ∷ []) [] 40 0 (3 ∷ 0 ∷ 1 ∷ 1 ∷ 1 ∷ 1 ∷ 0 ∷ 1 ∷ 2 ∷ 0 ∷ []) ∷ resend (1 ∷ 4 ∷ []) [] 39 13 []
+    ∷ resend (1 ∷ 4 ∷ []) [] 41 0 (3 ∷ 0 ∷ 1 ∷ 1 ∷ 1 ∷ 1 ∷ 0 ∷ 1 ∷ 2 ∷ 0 ∷ []) ∷ resend (1 ∷ 4 ∷ []) [] 40 0 (3 ∷ 0 ∷ 1 ∷ 1 ∷ 1 ∷ 1 ∷ 0 ∷ 1 ∷ 2 ∷ 0 ∷ [])
+    ∷ resend (1 ∷ 4 ∷ []) [] 39 13 [] ∷ resend (0 ∷ 1 ∷ []) [] 4 0 (0 ∷ []) ∷ resend (0 ∷ 1 ∷ []) [] 3 13 [] ∷ resend (1 ∷ 5 ∷ []) [] 4 12 [] ∷ [])
+    ∷ script table201 (resend (0 ∷ 0 ∷ []) [] 4 0 (0 ∷ []) ∷ resend (0 ∷ 0 ∷ []) [] 3 13 [] ∷ resend (4 ∷ 5 ∷ []) [] 28 0 (2 ∷ 0 ∷ 1 ∷ 1 ∷ 1 ∷ 1 ∷ 0 ∷ [])
+    ∷ resend (4 ∷ 5 ∷ []) [] 27 13 [] ∷ resend (4 ∷ 5 ∷ []) [] 29 0 (2 ∷ 0 ∷ 1 ∷ 1 ∷ 1 ∷ 1 ∷ 0 ∷ []) ∷ resend (0 ∷ 5 ∷ []) [] 16 0 (1 ∷ 1 ∷ 1 ∷ 0 ∷ [])
+    ∷ resend (3 ∷ 0 ∷ []) [] 16 0 (1 ∷ 0 ∷ 1 ∷ 1 ∷ []) ∷ resend (3 ∷ 0 ∷ []) [] 12 13 [] ∷ resend (0 ∷ 0 ∷ []) [] 4 0 (0 ∷ [])
+    ∷ resend (0 ∷ 0 ∷ []) [] 5 0 (0 ∷ []) ∷ resend (4 ∷ 6 ∷ []) [] 4 12 [] ∷ []) ∷ script table203 (resend (0 ∷ 0 ∷ 0 ∷ []) [] 4 0 (0 ∷ [])
+    ∷ resend (0 ∷ 0 ∷ 0 ∷ []) [] 3 13 [] ∷ resend (1 ∷ 0 ∷ 1 ∷ []) [] 4 0 (0 ∷ []) ∷ resend (1 ∷ 0 ∷ 1 ∷ []) [] 3 13 []
+    ∷ resend (1 ∷ 0 ∷ 1 ∷ []) [] 5 0 (0 ∷ []) ∷ resend (1 ∷ 0 ∷ 1 ∷ []) [] 4 0 (0 ∷ []) ∷ resend (1 ∷ 0 ∷ 1 ∷ []) [] 4 0 (0 ∷ [])
+    ∷ resend (1 ∷ 0 ∷ 1 ∷ []) [] 3 13 [] ∷ resend (0 ∷ 0 ∷ 0 ∷ []) [] 4 0 (0 ∷ []) ∷ resend (0 ∷ 0 ∷ 0 ∷ []) [] 5 0 (0 ∷ [])
+    ∷ resend (2 ∷ 0 ∷ 1 ∷ []) [] 4 12 [] ∷ []) ∷ script table208 (resend (0 ∷ 0 ∷ 0 ∷ []) [] 4 0 (0 ∷ []) ∷ resend (0 ∷ 0 ∷ 0 ∷ []) [] 3 13 []
+    ∷ resend (3 ∷ 2 ∷ 0 ∷ []) [] 52 0 (4 ∷ 0 ∷ 1 ∷ 2 ∷ 0 ∷ 2 ∷ 1 ∷ 1 ∷ 1 ∷ 2 ∷ 1 ∷ 2 ∷ 2 ∷ []) ∷ resend (3 ∷ 2 ∷ 0 ∷ []) [] 51 13 []
+    ∷ resend (3 ∷ 2 ∷ 0 ∷ []) [] 53 0 (4 ∷ 0 ∷ 1 ∷ 2 ∷ 0 ∷ 2 ∷ 1 ∷ 1 ∷ 1 ∷ 2 ∷ 1 ∷ 2 ∷ 2 ∷ [])
+    ∷ resend (3 ∷ 0 ∷ 0 ∷ []) [] 28 0 (2 ∷ 0 ∷ 1 ∷ 2 ∷ 0 ∷ 2 ∷ 1 ∷ [])
+    ∷ resend (3 ∷ 2 ∷ 0 ∷ []) [] 52 0 (4 ∷ 0 ∷ 1 ∷ 2 ∷ 0 ∷ 2 ∷ 1 ∷ 1 ∷ 1 ∷ 2 ∷ 1 ∷ 2 ∷ 2 ∷ [])
+    ∷ resend (3 ∷ 2 ∷ 0 ∷ []) [] 53 0 (4 ∷ 0 ∷ 1 ∷ 2 ∷ 0 ∷ 2 ∷ 1 ∷ 1 ∷ 1 ∷ 2 ∷ 1 ∷ 2 ∷ 2 ∷ [])
+    ∷ resend (3 ∷ 2 ∷ 0 ∷ []) [] 52 0 (4 ∷ 0 ∷ 1 ∷ 2 ∷ 0 ∷ 2 ∷ 1 ∷ 1 ∷ 1 ∷ 2 ∷ 1 ∷ 2 ∷ 2 ∷ [])
+    ∷ resend (3 ∷ 2 ∷ 0 ∷ []) [] 53 0 (4 ∷ 0 ∷ 1 ∷ 2 ∷ 0 ∷ 2 ∷ 1 ∷ 1 ∷ 1 ∷ 2 ∷ 1 ∷ 2 ∷ 2 ∷ []) ∷ resend (3 ∷ 2 ∷ 1 ∷ []) [] 4 12 [] ∷ [])
+    ∷ script table213 (resend (0 ∷ 0 ∷ 0 ∷ []) [] 4 0 (0 ∷ []) ∷ resend (0 ∷ 0 ∷ 0 ∷ []) [] 3 13 [] ∷ resend (1 ∷ 4 ∷ 0 ∷ []) [] 4 0 (0 ∷ [])
+    ∷ resend (1 ∷ 4 ∷ 0 ∷ []) [] 3 13 [] ∷ resend (1 ∷ 4 ∷ 0 ∷ []) [] 5 0 (0 ∷ []) ∷ resend (0 ∷ 4 ∷ 0 ∷ []) [] 4 0 (0 ∷ [])
+    ∷ resend (0 ∷ 1 ∷ 0 ∷ []) [] 4 0 (0 ∷ []) ∷ resend (0 ∷ 1 ∷ 0 ∷ []) [] 104 0 (0 ∷ []) ∷ resend (1 ∷ 4 ∷ 0 ∷ []) [] 4 0 (0 ∷ [])
+    ∷ resend (1 ∷ 4 ∷ 0 ∷ []) [] 3 13 [] ∷ resend (1 ∷ 4 ∷ 1 ∷ []) [] 4 12 [] ∷ []) ∷ script table218 (resend (0 ∷ 0 ∷ 0 ∷ []) [] 4 0 (0 ∷ [])
+    ∷ resend (0 ∷ 0 ∷ 0 ∷ []) [] 3 13 [] ∷ resend (4 ∷ 4 ∷ 1 ∷ []) [] 28 0 (2 ∷ 0 ∷ 1 ∷ 2 ∷ 1 ∷ 1 ∷ 0 ∷ []) ∷ resend (4 ∷ 4 ∷ 1 ∷ []) [] 27 13 []
+    ∷ resend (4 ∷ 4 ∷ 1 ∷ []) [] 29 0 (2 ∷ 0 ∷ 1 ∷ 2 ∷ 1 ∷ 1 ∷ 0 ∷ []) ∷ resend (4 ∷ 4 ∷ 0 ∷ []) [] 28 0 (2 ∷ 0 ∷ 1 ∷ 2 ∷ 1 ∷ 1 ∷ 0 ∷ [])
+    ∷ resend (0 ∷ 0 ∷ 0 ∷ []) [] 4 0 (0 ∷ []) ∷ resend (0 ∷ 0 ∷ 0 ∷ []) [] 104 0 (0 ∷ []) ∷ resend (1 ∷ 3 ∷ 0 ∷ []) [] 16 0 (1 ∷ 1 ∷ 1 ∷ 0 ∷ [])
+    ∷ resend (1 ∷ 3 ∷ 0 ∷ []) [] 116 0 (1 ∷ 1 ∷ 1 ∷ 0 ∷ []) ∷ resend (4 ∷ 4 ∷ 2 ∷ []) [] 4 12 [] ∷ [])
+    ∷ script table221 (resend (0 ∷ 0 ∷ 0 ∷ []) [] 4 0 (0 ∷ []) ∷ resend (0 ∷ 0 ∷ 0 ∷ []) [] 3 13 []
+    ∷ resend (4 ∷ 4 ∷ 5 ∷ []) [] 88 0 (7 ∷ 0 ∷ 1 ∷ 2 ∷ 0 ∷ 2 ∷ 1 ∷ 1 ∷ 1 ∷ 2 ∷ 1 ∷ 3 ∷ 2 ∷ 2 ∷ 1 ∷ 1 ∷ 2 ∷ 2 ∷ 0 ∷ 2 ∷ 3 ∷ 1 ∷ [])
+    ∷ resend (4 ∷ 4 ∷ 5 ∷ []) [] 87 13 []
+    ∷ resend (4 ∷ 4 ∷ 5 ∷ []) [] 89 0 (7 ∷ 0 ∷ 1 ∷ 2 ∷ 0 ∷ 2 ∷ 1 ∷ 1 ∷ 1 ∷ 2 ∷ 1 ∷ 3 ∷ 2 ∷ 2 ∷ 1 ∷ 1 ∷ 2 ∷ 2 ∷ 0 ∷ 2 ∷ 3 ∷ 1 ∷ [])
+    ∷ resend (4 ∷ 0 ∷ 5 ∷ []) [] 64 0 (5 ∷ 0 ∷ 1 ∷ 2 ∷ 0 ∷ 2 ∷ 1 ∷ 2 ∷ 1 ∷ 1 ∷ 2 ∷ 2 ∷ 0 ∷ 2 ∷ 3 ∷ 1 ∷ [])
+    ∷ resend (1 ∷ 1 ∷ 3 ∷ []) [] 52 0 (4 ∷ 0 ∷ 1 ∷ 2 ∷ 1 ∷ 1 ∷ 2 ∷ 2 ∷ 1 ∷ 1 ∷ 2 ∷ 2 ∷ 0 ∷ [])
+    ∷ resend (1 ∷ 1 ∷ 3 ∷ []) [] 152 0 (4 ∷ 0 ∷ 1 ∷ 2 ∷ 1 ∷ 1 ∷ 2 ∷ 2 ∷ 1 ∷ 1 ∷ 2 ∷ 2 ∷ 0 ∷ []) ∷ resend (0 ∷ 0 ∷ 0 ∷ []) [] 4 0 (0 ∷ [])
+    ∷ resend (0 ∷ 0 ∷ 0 ∷ []) [] 3 13 [] ∷ resend (4 ∷ 4 ∷ 6 ∷ []) [] 4 12 [] ∷ []) ∷ script table224 (resend (0 ∷ 0 ∷ 0 ∷ []) [] 4 0 (0 ∷ [])
+    ∷ resend (0 ∷ 0 ∷ 0 ∷ []) [] 3 13 [] ∷ resend (5 ∷ 5 ∷ 5 ∷ []) [] 28 0 (2 ∷ 0 ∷ 1 ∷ 1 ∷ 1 ∷ 1 ∷ 2 ∷ []) ∷ resend (5 ∷ 5 ∷ 5 ∷ []) [] 27 13 []
+    ∷ resend (5 ∷ 5 ∷ 5 ∷ []) [] 29 0 (2 ∷ 0 ∷ 1 ∷ 1 ∷ 1 ∷ 1 ∷ 2 ∷ []) ∷ resend (5 ∷ 0 ∷ 5 ∷ []) [] 16 0 (1 ∷ 0 ∷ 1 ∷ 1 ∷ [])
+    ∷ resend (0 ∷ 0 ∷ 0 ∷ []) [] 4 0 (0 ∷ []) ∷ resend (0 ∷ 0 ∷ 0 ∷ []) [] 104 0 (0 ∷ []) ∷ resend (3 ∷ 4 ∷ 0 ∷ []) [] 28 0 (2 ∷ 0 ∷ 1 ∷ 1 ∷ 1 ∷ 1 ∷ 2 ∷ [])
+    ∷ resend (3 ∷ 4 ∷ 0 ∷ []) [] 29 0 (2 ∷ 0 ∷ 1 ∷ 1 ∷ 1 ∷ 1 ∷ 2 ∷ []) ∷ resend (6 ∷ 5 ∷ 5 ∷ []) [] 4 12 [] ∷ []) ∷ []
+
+pub resendUnmade-agree : Agree resendUnmade
+unfolding freshOn stepOn lineOn failedOn resendOn layout decoded wellLaid word putWord putWords failureAnswer failureLine rounds round ones onesIn inTransit
+resendUnmade-agree = refl

@@ -33,6 +33,7 @@ pub struct Sort {
 const TABLE_READ: Lent = Lent::Read("table");
 const TABLE: Lent = Lent::Written("table");
 const AREA: Lent = Lent::Written("area");
+const POSITIONS: Lent = Lent::Read("positions");
 
 /// In the header's order.
 pub static CALLS: &[Sort] = &[
@@ -42,6 +43,7 @@ pub static CALLS: &[Sort] = &[
     Sort { name: "receipt", lent: &[TABLE, AREA], rows: &[2, 1, 2, 3, 4, 5, 6, 7, 8, 9] },
     Sort { name: "line", lent: &[TABLE_READ, AREA], rows: &[2, 1, 2, 3, 4] },
     Sort { name: "failed", lent: &[TABLE_READ, AREA], rows: &[2, 1, 2, 3, 4, 11] },
+    Sort { name: "resend", lent: &[TABLE_READ, AREA, POSITIONS], rows: &[2, 1, 2, 3, 12, 13] },
 ];
 
 impl Sort {
@@ -64,6 +66,7 @@ pub enum Call {
     Receipt { p: u32, q: u32, k: u32 },
     Line { number: u32 },
     Failed { mask: u32 },
+    Resend,
 }
 
 impl Call {
@@ -76,6 +79,7 @@ impl Call {
             Call::Receipt { p, q, k } => ("receipt", [Some(p), Some(q), Some(k)]),
             Call::Line { number } => ("line", [Some(number), None, None]),
             Call::Failed { mask } => ("failed", [Some(mask), None, None]),
+            Call::Resend => ("resend", [None; 3]),
         }
     }
 
@@ -94,11 +98,12 @@ impl Call {
         !self.sort().lent[0].may_change()
     }
 
-    /// The exact length of the answer area, for a table of n processes.
+    /// The exact length of the answer area, for a table of n processes; the least one of resend, which grows with what
+    /// it lists.
     pub fn area_length(self, n: u32) -> usize {
         match self {
             Call::Fresh { .. } => 0,
-            Call::Checkpoint { .. } => 4,
+            Call::Checkpoint { .. } | Call::Resend => 4,
             Call::Send { .. } | Call::Receipt { .. } => 8,
             Call::Line { .. } => 4 * n as usize,
             Call::Failed { .. } => 4 * n as usize + 8,
@@ -110,7 +115,7 @@ impl Call {
         &areas[..self.sort().lent.len() - 1]
     }
 
-    /// The call as a line of the text program has it, without the line's end.
+    /// The call as a line of the text program has it, without the line's end. It has no word for resend.
     pub fn text(self) -> String {
         let (name, numbers) = self.parts();
         let [a, b, c] = numbers.map(|number| number.map_or_else(String::new, |number| number.to_string()));
@@ -127,6 +132,7 @@ pub fn on_reference(call: Call, lent: &mut [&mut [u8]]) -> u32 {
         (Call::Receipt { p, q, k }, [table, area]) => reference::receipt(table, area, p, q, k),
         (Call::Line { number }, [table, area]) => reference::line(table, area, number),
         (Call::Failed { mask }, [table, area]) => reference::failed(table, area, mask),
+        (Call::Resend, [table, area, positions]) => reference::resend(table, positions, area),
         (_, lent) => panic!("{call:?} with {} lent areas", lent.len()),
     }
 }

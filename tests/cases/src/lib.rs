@@ -1,6 +1,7 @@
 //! Calls, numbers and tables to try engines on, drawn from a seed.
 pub mod calls;
 pub mod chosen;
+pub mod cut;
 pub mod table;
 
 pub use calls::{on_reference, Call};

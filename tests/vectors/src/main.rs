@@ -1,14 +1,15 @@
 //! Prints crates/vectors/specs/Vectors.antt: scripts of calls with the outcomes that the reference engine gives, as
 //! definitions and theorems that hold the rules to them. With the word `text` it prints TextVectors.antt instead.
 use cases::calls::numbers;
-use cases::chosen::{count_into_next_section, full, one_free_at};
+use cases::chosen::{count_into_next_section, crossed, full, one_free_at, WORKED};
+use cases::cut::{self, has_orphan, in_transit, listed, tuples};
 use cases::table::{
     changed, checkpoint, forced, receipt, record, section, send, words_of_records, Record, A, B, COUNT, KIND,
-    NUMBER, SENDS,
+    NUMBER, RECEIPT, SENDS,
 };
 use cases::{
-    area_length, from_records, from_words, messages, on_reference, remember, step, table_length, to_words,
-    well_laid, Call, Rng,
+    area_length, from_records, from_words, messages, on_reference, records, remember, step, table_length,
+    to_words, well_laid, Call, Rng,
 };
 use std::collections::BTreeSet;
 use std::env;
@@ -40,15 +41,25 @@ use Rattle.rules.specs.Steps.{checkpoint, send, receipt}
 use Rattle.rules.specs.FailureLine.{round, rounds, failureLine}
 use Rattle.rules.specs.Calls.{failureAnswer, freshOn, stepOn, lineOn, failedOn}
 use Rattle.rules.specs.Text.{fresh, step, line, failed}
-use Rattle.vectors.specs.Try.{Script, script, refused, accepted, lent, Agree}
+use Rattle.rules.specs.Resend.{inTransit, resendOn}
+use Rattle.vectors.specs.Try.{Script, script, refused, accepted, resend, lent, Agree}
 ";
 
 const UNFOLDING: &str =
-    "unfolding freshOn stepOn lineOn failedOn layout decoded wellLaid word putWord putWords failureAnswer failureLine rounds round ones onesIn";
+    "unfolding freshOn stepOn lineOn failedOn resendOn layout decoded wellLaid word putWord putWords failureAnswer failureLine rounds round ones onesIn inTransit";
 
 /// A list as antt has it.
 fn list<T: ToString>(items: &[T]) -> String {
     items.iter().map(|item| item.to_string() + " ∷ ").collect::<String>() + "[]"
+}
+
+/// A list as an argument.
+fn argument<T: ToString>(items: &[T]) -> String {
+    if items.is_empty() {
+        list(items)
+    } else {
+        format!("({})", list(items))
+    }
 }
 
 /// The start of a definition and the pieces of its list, broken before a ∷ where a line would grow too long.
@@ -122,10 +133,11 @@ impl File {
     }
 }
 
-/// A call, the length of its area, and its outcome.
+/// A call, the length of its area, what else it is lent, and its outcome.
 struct Step {
-    ask: String,
+    call: Call,
     area: usize,
+    further: Vec<u8>,
     returned: u32,
     answer: Vec<u32>,
     after: Vec<u8>,
@@ -134,14 +146,17 @@ struct Step {
 impl Step {
     fn text(&self, file: &mut File) -> String {
         file.met.insert(self.returned);
-        let (ask, area) = (&self.ask, self.area);
-        if self.returned == 0 {
-            let after = file.table(&self.after);
-            let answer =
-                if self.answer.is_empty() { list(&self.answer) } else { format!("({})", list(&self.answer)) };
-            format!("accepted ({ask}) {area} {answer} {after}")
+        let (area, returned, answer) = (self.area, self.returned, argument(&self.answer));
+        if self.call == Call::Resend {
+            let words = argument(&to_words(&self.further));
+            let rest = argument(self.further.chunks_exact(4).remainder());
+            return format!("resend {words} {rest} {area} {returned} {answer}");
+        }
+        let ask = ask(self.call);
+        if returned == 0 {
+            format!("accepted ({ask}) {area} {answer} {}", file.table(&self.after))
         } else {
-            format!("refused ({ask}) {area} {}", self.returned)
+            format!("refused ({ask}) {area} {returned}")
         }
     }
 }
@@ -155,6 +170,7 @@ fn ask(call: Call) -> String {
         Call::Receipt { p, q, k } => format!("step {p} (receipt {q} {k})"),
         Call::Line { number } => format!("line {number}"),
         Call::Failed { mask } => format!("failed {mask}"),
+        Call::Resend => unreachable!("a step of its own"),
     }
 }
 
@@ -190,15 +206,35 @@ impl Script {
     }
 
     fn call(&mut self, call: Call, length: usize) -> u32 {
+        self.call_with(call, length, &[])
+    }
+
+    /// A call that is lent these bytes besides.
+    fn call_with(&mut self, call: Call, length: usize, further: &[u8]) -> u32 {
         let before = self.table.clone();
-        let mut area = vec![0xFF; length];
-        let lent = &mut [&mut self.table[..], &mut area];
+        let (mut area, mut besides) = (vec![0xFF; length], further.to_vec());
+        let lent = &mut [&mut self.table[..], &mut area, &mut besides];
         let returned = on_reference(call, &mut lent[..call.sort().lent.len()]);
-        // `refused` says that table and area stay as they were.
-        assert!(returned == 0 || (self.table == before && area == vec![0xFF; length]));
-        let (answer, after) = (to_words(&area), self.table.clone());
-        self.steps.push(Step { ask: ask(call), area: length, returned, answer, after });
+        // What the scripts say of a refused call, and of what a call only reads or doesn't need.
+        assert!(self.table == before || (returned == 0 && !call.only_answers()));
+        assert!(besides == further);
+        let used = match (returned, call) {
+            (0, Call::Resend) => 4 + 12 * to_words(&area)[0] as usize,
+            (0, _) => length,
+            _ => 0,
+        };
+        assert!(area[used..].iter().all(|&b| b == 0xFF));
+        let (answer, after) = (to_words(&area[..used]), self.table.clone());
+        self.steps.push(Step { call, area: length, further: besides, returned, answer, after });
         returned
+    }
+
+    /// Resend at this cut with the area that it needs, and with others.
+    fn resend(&mut self, cut: &[u32], others: &[isize]) {
+        let needed = 4 * listed(&in_transit(&records(&self.table), cut)).len();
+        for &more in [0].iter().chain(others) {
+            self.call_with(Call::Resend, needed.saturating_add_signed(more), &from_words(cut));
+        }
     }
 
     fn exact(&mut self, call: Call) -> u32 {
@@ -226,14 +262,7 @@ impl Script {
 }
 
 fn worked_controller() -> Script {
-    Script::fresh(3, 6).with(&[
-        Call::Checkpoint { p: 0 },
-        Call::Send { p: 0, q: 1 },
-        Call::Send { p: 1, q: 2 },
-        Call::Receipt { p: 1, q: 0, k: 1 },
-        Call::Send { p: 1, q: 2 },
-        Call::Receipt { p: 2, q: 1, k: 2 },
-        Call::Receipt { p: 2, q: 1, k: 1 },
+    Script::fresh(3, 6).with(&WORKED).with(&[
         Call::Line { number: 0 },
         Call::Line { number: 1 },
         Call::Line { number: 2 },
@@ -321,7 +350,8 @@ fn badly_laid() -> Vec<Script> {
     ];
     let bad = tables.iter().enumerate().map(|(i, words)| {
         let tried = [calls[i % 4], calls[(i + 1) % 4], Call::Failed { mask: 0 }];
-        let script = Script::words(words).with(&tried);
+        let mut script = Script::words(words).with(&tried);
+        script.call(Call::Resend, 0);
         assert!(script.steps.iter().all(|step| step.returned == 3), "{words:?}");
         script
     });
@@ -340,6 +370,7 @@ fn each(mut script: Script, area: usize) -> Script {
     for call in calls {
         script.call(call, area);
     }
+    script.call_with(Call::Resend, area, &from_words(&[0, MAX]));
     script
 }
 
@@ -434,6 +465,62 @@ fn fall() -> Script {
     script
 }
 
+/// Every cut of the worked controller, and of a table on which receipts go astray; at some cuts other areas too.
+fn cuts_of_small_tables() -> Vec<Script> {
+    let mut worked = Script::on(&worked_controller().table);
+    let mut astray = Script::records(4, &crossed());
+    for script in [&mut worked, &mut astray] {
+        let tops = cut::counts(&records(&script.table));
+        for (i, cut) in tuples(&tops).enumerate() {
+            let others: &[isize] = if i % 6 == 0 { &[-1, 1, 100] } else { &[] };
+            script.resend(&cut, others);
+        }
+    }
+    vec![worked, astray]
+}
+
+/// n = 2, E = 2: positions of other lengths or above their counts, 12 before 13, then areas that are too short or long.
+fn rows_of_resend() -> Script {
+    let mut script = Script::words(&good());
+    let above = [[3, 0], [0, 2], [2, 2], [3, 1], [1 << 24, 0], [0, 1 << 24], [1 << 31, 1], [0, MAX]];
+    let above = above.iter().map(|positions| from_words(positions));
+    for positions in [0, 4, 7, 9, 12].map(|length| vec![0; length]).into_iter().chain(above) {
+        for area in [0, 100] {
+            assert_eq!(script.call_with(Call::Resend, area, &positions), 12);
+        }
+    }
+    for cut in [[0, 0], [2, 0], [2, 1], [0, 1]] {
+        script.resend(&cut, &[-1, 1, 100]);
+        for area in [0, 3] {
+            assert_eq!(script.call_with(Call::Resend, area, &from_words(&cut)), 13);
+        }
+    }
+    script
+}
+
+/// Cuts of a table: all zero, at the counts, one with an orphan where a process has a receipt, and two drawn ones.
+fn resends(rng: &mut Rng, table: &[u8]) -> Script {
+    let mut script = Script::on(table);
+    let sections = records(table);
+    let counts = cut::counts(&sections);
+    script.resend(&vec![0; counts.len()], &[-1]);
+    script.resend(&counts, &[-1, 1]);
+    if let Some(receipt) = sections.iter().flatten().find(|r| r[KIND] == RECEIPT) {
+        let mut cut = counts.clone();
+        cut[receipt[A] as usize] = 0;
+        assert!(has_orphan(&sections, &cut));
+        script.resend(&cut, &[]);
+    }
+    for _ in 0..2 {
+        script.resend(&cut::draw(rng, &counts), &[rng.pick(&[-4, -1, 1, 100])]);
+    }
+    let mut above = counts;
+    let p = rng.below(above.len() as u32) as usize;
+    above[p] += 1;
+    script.call_with(Call::Resend, 4, &from_words(&above));
+    script
+}
+
 fn main() {
     let words: Vec<String> = env::args().skip(1).collect();
     match words.iter().map(String::as_str).collect::<Vec<_>>()[..] {
@@ -458,15 +545,24 @@ fn rules() -> String {
     let orders = [[1, 2, 3], [3, 2, 1], [2, 1, 3]].map(falling_numbers);
     file.group("forced", forced, orders.into_iter().chain([forced_chain()]).collect());
     file.group("fall", "A failure line that falls to the start, a checkpoint a round.", vec![fall()]);
+    let (mut made, mut unmade) = (Vec::new(), Vec::new());
     for (i, &(n, e)) in RUNS.iter().enumerate() {
         let run = random_run(&mut rng, n, e, 4 * n + 2 * e);
+        made.push(run.table.clone());
         file.group(&format!("run{i}"), &format!("A run from fresh: n = {n}, E = {e}."), vec![run]);
     }
     for (i, &(n, e)) in UNMADE.iter().enumerate() {
         let note = format!("A well laid table that no run makes: n = {n}, E = {e}.");
         let script = random_well_laid(&mut rng, n, e, 10);
+        unmade.push(script.start.clone());
         file.group(&format!("unmade{i}"), &note, vec![script]);
     }
+    let cuts = "Resend at every cut of the worked controller, and of a table whose receipts are by others than the destination, or twice.";
+    file.group("resendCuts", cuts, cuts_of_small_tables());
+    file.group("resendRows", "The rows of resend, in order.", vec![rows_of_resend()]);
+    let mut of = |tables: &[Vec<u8>]| tables.iter().map(|table| resends(&mut rng, table)).collect();
+    file.group("resendMade", "Resend on the tables that the runs left.", of(&made));
+    file.group("resendUnmade", "Resend on the well laid tables that no run makes.", of(&unmade));
     assert_eq!(file.met, numbers(), "the numbers that are met");
     file.text
 }
