@@ -18,7 +18,8 @@ use Rattle.basics.proofs.Booleans.{Test, passes, fails, test, or-false, or-righ
 use Rattle.records.proofs.Cuts.{last-le, before-all}
 use Rattle.tables.proofs.WellLaid.{records-length}
 use Rattle.tables.proofs.Scans.{event, second-only, sends-next}
-use Rattle.cuts.specs.Tests.{late, noteIndex, unsent, noteOf, noted}
+use Rattle.cuts.specs.Tests.{late, noteIndex, unsent}
+use Rattle.cuts.specs.Notes.{noteOf, noted}
 
 -- ---- what a record's words say
 
@@ -177,10 +178,10 @@ module _ (w : ℕ → ℕ) (at : ℕ) where
   note-event : (i : ℕ) → noteOf (eventAt w i) ≡ cond (eqb (w i) 3) (w (i + 1) % 32) 16
   note-event i = event noteOf w i refl ∙ second-only (w i) (w (i + 1) % 32) 16
 
-  pub note-next : (E q : ℕ) (to : List ℕ) (i : ℕ) {kind a k v : ℕ} {u : List ℕ} → kind ≡ w (at + width * i) → a ≡ w (at + width * i + 1)
-      → u ≡ noted E q (recordsAt w at i) to → k ≡ sends (recordsAt w at i) → v ≡ cond (eqb kind 3) (a % 32) 16
-      → set u (q * E + k + 1) v ≡ noted E q (recordsAt w at (i + 1)) to
-  note-next E q to i x y h s e = rw (h, s, e, x, y, add-one i, note-event (at + width * i))
+  pub note-next : (from : ℕ) (to : List ℕ) (i : ℕ) {kind a k v : ℕ} {u : List ℕ} → kind ≡ w (at + width * i) → a ≡ w (at + width * i + 1)
+      → u ≡ noted from (recordsAt w at i) to → k ≡ sends (recordsAt w at i) → v ≡ cond (eqb kind 3) (a % 32) 16
+      → set u (from + k + 1) v ≡ noted from (recordsAt w at (i + 1)) to
+  note-next from to i x y h s e = rw (h, s, e, x, y, add-one i, note-event (at + width * i))
 
 pub note-inside : (E len q k : ℕ) → 0 < len → noteIndex E len q k < len
 note-inside E len q k l = go (test (ltb (q * E + k) len))

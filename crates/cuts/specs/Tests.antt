@@ -1,10 +1,10 @@
 -- What the scans for a failure line ask of a record.
 use mathlib.Core.Bool.{Bool, false, not, cond}
-use mathlib.Core.List.{List, [], _∷_}
+use mathlib.Core.List.{List}
 use Prim.Native.Nat.{ℕ, _+_, _*_, _%_}
 use lib.Dec.{ltb, eqb}
-use lib.ListN.{length, getD, set}
-use Rattle.rules.specs.Records.{Event, basic, forced, sent, received, History, sends}
+use lib.ListN.{length, getD}
+use Rattle.rules.specs.Records.{Event, basic, forced, sent, received}
 
 -- a receipt whose send number is above the sender's count of sends, of which there are sixteen
 abbrev pub late : List ℕ → Event → Bool
@@ -13,9 +13,7 @@ late counts (forced m) = false
 late counts (sent q) = false
 late counts (received q k) = ltb (getD counts (q % 16) 0) k
 
--- ---- notes of where sends go: that of send k of process q stands at index q × E + k
-
--- the index, 0 where a list of this length doesn't have it
+-- where send k of process q is noted if each process has E notes; 0 where a list of this length doesn't have it
 abbrev pub noteIndex : ℕ → ℕ → ℕ → ℕ → ℕ
 noteIndex E len q k = cond (ltb (q * E + k) len) (q * E + k) 0
 
@@ -25,15 +23,3 @@ unsent E p to (basic m) = false
 unsent E p to (forced m) = false
 unsent E p to (sent q) = false
 unsent E p to (received q k) = not (eqb (getD to (noteIndex E (length to) q k) 0) p)
-
--- what stands at the index of the next send once a record is read: its destination, 16 if it is no send
-abbrev pub noteOf : Event → ℕ
-noteOf (basic m) = 16
-noteOf (forced m) = 16
-noteOf (sent q) = q % 32
-noteOf (received q k) = 16
-
--- the list after the records of process q
-abbrev pub noted : ℕ → ℕ → History → List ℕ → List ℕ
-noted E q [] to = to
-noted E q (e ∷ h) to = set (noted E q h to) (q * E + sends h + 1) (noteOf e)

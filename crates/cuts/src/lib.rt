@@ -7,7 +7,8 @@ ghost use Rattle.xdr.specs.Words.{word};
 ghost use Rattle.rules.specs.Records.{sends as sendsOf};
 ghost use Rattle.rules.specs.Table.{width, recordsAt};
 ghost use Rattle.rules.specs.FailureLine.{lastSaved, before};
-ghost use Rattle.cuts.specs.Tests.{late, noteIndex, unsent, noted};
+ghost use Rattle.cuts.specs.Tests.{late, noteIndex, unsent};
+ghost use Rattle.cuts.specs.Notes.{noted, Inside, struck};
 
 // Where a process stands in a cut: how many of its records have happened, and how many of these are sends.
 pub struct Part {
@@ -99,18 +100,37 @@ pub fn first_unsent(t: &[u8], at: usize, c: usize, e: usize, p: u8, to: &[u8]) -
     c
 }
 
-// Notes where the sends of process q go.
-pub fn note(t: &[u8], at: usize, c: usize, e: usize, q: usize, to: &mut [u8])
-    requires { ⌜ (c ≤ e) × (e ≤ 1024) × (q < 16) × (4 * (at + width * c) ≤ length (now t)) × (q * e + e < length (now to)) ⌝ }
-    ensures { λ _. ⌜ now (to .exit) ≡ noted e q (recordsAt (word (now (t .entry))) at c) (now (to .entry)) ⌝ }
+// Notes from an index on where the sends go; how many there are.
+pub fn note(t: &[u8], at: usize, c: usize, from: usize, to: &mut [u8]) -> usize
+    requires { ⌜ (c ≤ 1024) × (4 * (at + width * c) ≤ length (now t)) × (from + c < length (now to)) ⌝ }
+    ensures { λ r. ⌜ (now (to .exit) ≡ noted from (recordsAt (word (now (t .entry))) at c) (now (to .entry))) × (r ≡ sendsOf (recordsAt (word (now (t .entry))) at c)) ⌝ }
 {
     let mut k: usize = 0;
     let mut i: usize = 0;
     while i < c {
         let w = at + shape::WIDTH * i;
         let kind = xdr::get_usize(t, w);
-        to[q * e + k + 1] = shape::pick(kind == 3, xdr::get_usize(t, w + 1) % 32, 16) as u8;
+        to[from + k + 1] = shape::pick(kind == 3, xdr::get_usize(t, w + 1) % 32, 16) as u8;
         k = shape::pick(kind == 3, k + 1, k);
+        i += 1;
+    }
+    k
+}
+
+// Strikes from the notes what process p has received: where p is noted for one of its receipts, 16 is noted instead.
+pub fn strike(t: &[u8], at: usize, c: usize, starts: &[u16], counts: &[u16], p: u8, to: &mut [u8])
+    requires { ⌜ (c ≤ 1024) × (4 * (at + width * c) ≤ length (now t)) × (length (now starts) ≡ 16) × (length (now counts) ≡ 16) × Inside (now starts) (now counts) (length (now to)) ⌝ }
+    ensures { λ _. ⌜ now (to .exit) ≡ struck (now (starts .entry)) (now (counts .entry)) p (recordsAt (word (now (t .entry))) at c) (now (to .entry)) ⌝ }
+{
+    let mut i: usize = 0;
+    while i < c {
+        let w = at + shape::WIDTH * i;
+        let q = xdr::get_usize(t, w + 1) % 16;
+        let k = xdr::get_usize(t, w + 2);
+        let x = shape::pick(k <= wide(counts[q]), wide(starts[q]) + k, 0);
+        let d = to[x];
+        let got = (xdr::get_usize(t, w) == 4) & (d == p);
+        to[x] = shape::pick(got, 16, d as usize) as u8;
         i += 1;
     }
 }

@@ -25,11 +25,10 @@ use Rattle.records.proofs.Rows.{none-met, first-none, split-zero, judged-stop, 
 use Rattle.records.proofs.FailureLines.{failure-line}
 use Rattle.records.proofs.Masks.{two-positive, mask-lt}
 use Rattle.tables.proofs.WellLaid.{decoded-count, decoded-short}
-use Rattle.tables.proofs.OneCall.{valid}
 use Rattle.lowering.specs.Lowering.{Lowered, NoneAlways, NoneLate}
 use Rattle.tops.specs.Tops.{Laid, Counted, Over}
 use Rattle.lowering.proofs.Cuts.{always-lowered, none-clean, over-line}
-use Rattle.tops.proofs.Starts.{is-valid, processes, section}
+use Rattle.tops.proofs.Starts.{laid, is-valid, processes, section}
 
 -- ---- rows
 
@@ -67,11 +66,8 @@ pub asked : (t a : List ℕ) (mask : ℕ) → Bytes t → {r n E : ℕ} → r �
 asked t a mask b e z i j =
     let s = split-zero (tableRows t) (failureRows (word t 0) mask (length a)) tt (sym e ∙ z) in
     let m = none-met (failureRows (word t 0) mask (length a)) tt (s .1) in
-    let W = valid t b (s .0) in
-    let g = W .range .processes in
-    let h = W .range .records in
     let l = eqb-true (length a) (4 * word t 0 + 8) (not-false (eqb (length a) (4 * word t 0 + 8)) (m .0)) in
-    record { laid = (first-none (tableRows t) (s .0), i, j, omega arith, omega arith); area = omega arith }
+    record { laid = laid t b (sym (first-none (tableRows t) (s .0))) refl i j; area = omega arith }
 
 -- ---- positions
 

@@ -1,16 +1,15 @@
 -- What is noted of sends, and that it finds the receipts that are orphans in every cut.
-use mathlib.Core.Path.{_≡_, refl, sym, ap, _∙_, subst}
-use mathlib.Core.Logic.{_≢_, _⊎_, inl, inr}
+use mathlib.Core.Path.{_≡_, refl, ap, _∙_, subst}
+use mathlib.Core.Logic.{inl, inr}
 use mathlib.Core.Bool.{Bool, true, false, not, cond, _&&_}
 use mathlib.Core.List.{List, [], _∷_}
 use Prim.Native.Nat.{ℕ, suc, _+_, _*_, _≤_, _<_}
-use native.Mathlib.Nat.{mod-eq-of-lt, mul-le-mul-right}
+use native.Mathlib.Nat.{mul-le-mul-right}
 use native.Mathlib.Omega.{arith}
 use native.Mathlib.Decide.{ℕ-discrete}
 use lib.Dec.{leb, eqb}
-use lib.ListN.{length, getD, set, length-set}
-use lib.Seq.{getD-set-same, getD-set-other}
-use borrow.Author.Tests.{lt-ltb, leb-true, leb-false, le-leb, lt-leb, eq-eqb, ne-eqb}
+use lib.ListN.{length, getD}
+use borrow.Author.Tests.{lt-ltb, leb-true, leb-false, ne-eqb}
 use Rattle.xdr.specs.Words.{word}
 use Rattle.xdr.proofs.Words.{Bytes}
 use Rattle.rules.specs.Records.{Event, basic, forced, sent, received, History, State, history, sends, destination, hasSend}
@@ -19,95 +18,46 @@ use Rattle.rules.specs.FailureLine.{any, before}
 use Rattle.basics.proofs.Booleans.{Test, passes, fails, test}
 use Rattle.records.proofs.Histories.{Each, each-older}
 use Rattle.records.proofs.Cuts.{upto-is-older}
-use Rattle.tables.proofs.Laid.{Law, Legal, sends-length}
-use Rattle.cuts.specs.Tests.{noteIndex, unsent, noteOf, noted}
+use Rattle.tables.proofs.Laid.{Law, Legal}
+use Rattle.cuts.specs.Tests.{noteIndex, unsent}
+use Rattle.cuts.specs.Notes.{noted}
+use Rattle.cuts.proofs.Notes.{noted-length, noted-other, noted-sent, noted-blank}
 use Rattle.lowering.specs.Lowering.{alwaysOrphan, goes, Noted, Blank}
 use Rattle.tops.specs.Tops.{Laid, Counted}
 use Rattle.lowering.proofs.Cuts.{always-fair}
 use Rattle.lowering.proofs.Steps.{Written, step}
 use Rattle.tops.proofs.Starts.{lawful, section, view}
 
-module _ (E q : ℕ) (to : List ℕ) where
-  pub noted-length : (h : History) → length (noted E q h to) ≡ length to
-  noted-length [] = refl
-  noted-length (e ∷ h) = length-set (noted E q h to) (q * E + sends h + 1) (noteOf e) ∙ noted-length h
-
-  -- the places of other processes stay as they were
-  noted-other : (h : History) (j : ℕ) → (j ≤ q * E) ⊎ (q * E + length h < j) → getD (noted E q h to) j 0 ≡ getD to j 0
-  noted-other [] j o = refl
-  noted-other (e ∷ h) j o =
-      let l = sends-length h in
-      getD-set-other (noted E q h to) (q * E + sends h + 1) j (noteOf e) 0 (away o) ∙ noted-other h j (less o)
-    where
-      less : (j ≤ q * E) ⊎ (q * E + suc (length h) < j) → (j ≤ q * E) ⊎ (q * E + length h < j)
-      less (inl x) = inl x
-      less (inr x) = inr (omega arith)
-
-      away : (j ≤ q * E) ⊎ (q * E + suc (length h) < j) → j ≢ q * E + sends h + 1
-      away (inl x) z = absurd (omega arith)
-      away (inr x) z = let l = sends-length h in absurd (omega arith)
-
-  -- each place of q has where that send goes
-  noted-at : (n p : ℕ) → n ≤ 16 → q * E + E < length to → Blank to (q * E) → (h : History) → Legal n E p h → length h ≤ E → (k : ℕ)
-      → 0 < k → k ≤ E
-      → getD (noted E q h to) (q * E + k) 0 ≡ goes h k
-  noted-at n p few room blank [] legal short k pos le = rw (lt-leb k 0 pos) (blank (q * E + k) (omega arith) (omega arith))
-  noted-at n p few room blank (e ∷ h) legal short k pos le =
-      go (ℕ-discrete k (sends h + 1)) (noted-at n p few room blank h (legal .1) (omega arith) k pos le)
-    where
-      u : List ℕ
-      u = noted E q h to
-
-      here : (x : Event) → Law n E p x h → k ≡ sends h + 1 → noteOf x ≡ goes (x ∷ h) k
-      here (basic m) a z = rw (lt-leb k (sends h) (omega arith))
-      here (forced m) a z = rw (lt-leb k (sends h) (omega arith))
-      here (received r j) a z = rw (lt-leb k (sends h) (omega arith))
-      here (sent d) a z =
-          let s : k ≡ suc (sends h) = omega arith in
-          let m = a .0 in
-          rw (le-leb k (suc (sends h)) (omega arith), eq-eqb k (suc (sends h)) s) (mod-eq-of-lt (omega arith))
-
-      there : (x : Event) → k ≢ sends h + 1 → goes h k ≡ goes (x ∷ h) k
-      there (basic m) z = refl
-      there (forced m) z = refl
-      there (received r j) z = refl
-      there (sent d) z =
-          let ne : k ≢ suc (sends h) = (λ s. z (omega arith)) in
-          rw (ne-eqb k (suc (sends h)) ne) (ap (λ (b : Bool). cond b (destination h k) 16) (same (test (leb k (sends h)))))
-        where
-          same : Test (leb k (sends h)) → leb k (sends h) ≡ leb k (suc (sends h))
-          same (passes y) = y ∙ sym (le-leb k (suc (sends h)) (let l = leb-true k (sends h) y in omega arith))
-          same (fails y) = y ∙ sym (lt-leb k (suc (sends h)) (let l = leb-false k (sends h) y in omega arith))
-
-      go : Dec (k ≡ sends h + 1) → getD u (q * E + k) 0 ≡ goes h k
-          → getD (set u (q * E + sends h + 1) (noteOf e)) (q * E + k) 0 ≡ goes (e ∷ h) k
-      go (yes z) r =
-          let i : q * E + k ≡ q * E + sends h + 1 = omega arith in
-          let m = noted-length h in
-          rw i (getD-set-same u (q * E + sends h + 1) (noteOf e) 0 (omega arith) ∙ here e (legal .0) z)
-      go (no z) r =
-          getD-set-other u (q * E + sends h + 1) (q * E + k) (noteOf e) 0 (λ i. z (omega arith)) ∙ r ∙ there e z
+-- each place of q has where that send goes
+noted-at : (E q : ℕ) (to : List ℕ) (n p : ℕ) → n ≤ 16 → q * E + E < length to → Blank to (q * E) → (h : History) → Legal n E p h → length h ≤ E
+    → (k : ℕ) → 0 < k → k ≤ E
+    → getD (noted (q * E) h to) (q * E + k) 0 ≡ goes h k
+noted-at E q to n p few room blank h legal short k pos le = go (test (leb k (sends h)))
+  where
+    go : Test (leb k (sends h)) → getD (noted (q * E) h to) (q * E + k) 0 ≡ cond (leb k (sends h)) (destination h k) 16
+    go (passes x) = rw x (noted-sent (q * E) to n E p few h legal (omega arith) k pos (leb-true k (sends h) x))
+    go (fails x) = rw x (noted-blank (q * E) to blank h (omega arith) k (leb-false k (sends h) x) (omega arith))
 
 -- one process more
 pub noted-next : (s : State) (n E p : ℕ) (to : List ℕ) → n ≤ 16 → p * E + E < length to → Noted s E to p → Blank to (p * E)
-    → Legal n E p (history s p) → length (history s p) ≤ E → {u : List ℕ} → u ≡ noted E p (history s p) to
+    → Legal n E p (history s p) → length (history s p) ≤ E → {u : List ℕ} → u ≡ noted (p * E) (history s p) to
     → (length u ≡ length to) × Noted s E u (p + 1) × Blank u ((p + 1) * E)
 noted-next s n E p to few room N B legal short {u} e = rw e (
-  noted-length E p to h,
+  noted-length (p * E) to h,
   λ q k lt pos le. at q k lt pos le (ℕ-discrete q p),
   λ i a b.
-      let m = noted-length E p to h in
-      noted-other E p to h i (inr (omega arith)) ∙ B i (omega arith) (omega arith),
+      let m = noted-length (p * E) to h in
+      noted-other (p * E) to h i (inr (omega arith)) ∙ B i (omega arith) (omega arith),
 )
   where
     h : History
     h = history s p
 
-    at : (q k : ℕ) → q < p + 1 → 0 < k → k ≤ E → Dec (q ≡ p) → getD (noted E p h to) (q * E + k) 0 ≡ goes (history s q) k
+    at : (q k : ℕ) → q < p + 1 → 0 < k → k ≤ E → Dec (q ≡ p) → getD (noted (p * E) h to) (q * E + k) 0 ≡ goes (history s q) k
     at q k lt pos le (yes z) = rw z (noted-at E p to n p few room B h legal short k pos le)
     at q k lt pos le (no ne) =
         let m = mul-le-mul-right {m = q + 1} {n = p} E (omega arith) in
-        noted-other E p to h (q * E + k) (inl (omega arith)) ∙ N q k (omega arith) pos le
+        noted-other (p * E) to h (q * E + k) (inl (omega arith)) ∙ N q k (omega arith) pos le
 
 -- ---- the test by what is noted is the test for receipts that are orphans in every cut
 
@@ -146,14 +96,14 @@ unsent-always s n E p to lp room N h legal = before-same (unsent E p to) (always
 
 module _ (t : List ℕ) (b : Bytes t) {n E : ℕ} (L : Laid t n E) (p : ℕ) (lt : p < n) {at : ℕ} (i : at ≡ start E p) where
   pub note-turn : (to : List ℕ) → p * E + E < length to → Noted (decoded t) E to p → Blank to (p * E) → {c : ℕ} → c ≡ word t at
-      → {u : List ℕ} → u ≡ noted E p (recordsAt (word t) (at + heading) c) to
+      → {u : List ℕ} → u ≡ noted (p * E) (recordsAt (word t) (at + heading) c) to
       → (length u ≡ length to) × Noted (decoded t) E u (p + 1) × Blank u ((p + 1) * E)
   note-turn to room N B z e =
       let H = section t b L p lt i in
       let d = H .count in
       let f = H .short in
       noted-next (decoded t) n E p to (L .3) room N B (lawful t b L p) (omega arith)
-      (e ∙ ap (λ (h : History). noted E p h to) (ap (recordsAt (word t) (at + heading)) z ∙ H .events))
+      (e ∙ ap (λ (h : History). noted (p * E) h to) (ap (recordsAt (word t) (at + heading)) z ∙ H .events))
 
   -- what the scan finds is the first receipt that is an orphan in every cut
   pub always-step : (P S : List ℕ) → Counted (decoded t) P S → (to : List ℕ) → n * E < length to → Noted (decoded t) E to n

@@ -42,7 +42,7 @@ fn note_all(t: &[u8], n: usize, e: usize, to: &mut [u8])
     let mut p: usize = 0;
     while p < n {
         let at = shape::start(e, p);
-        cuts::note(t, at + shape::HEADING, xdr::get_usize(t, at), e, p, to);
+        cuts::note(t, at + shape::HEADING, xdr::get_usize(t, at), p * e, to);
         p += 1;
     }
 }

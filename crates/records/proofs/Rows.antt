@@ -8,7 +8,7 @@ use native.Mathlib.Omega.{arith}
 use lib.Dec.{eqb}
 use borrow.Author.Tests.{eqb-true, eq-eqb, ne-eqb}
 use Rattle.xdr.specs.Words.{putWords}
-use Rattle.rules.specs.Calls.{outcome, Row, row, first, judged}
+use Rattle.rules.specs.Calls.{outcome, Row, row, first, judged, outcomeWith, judgedWith}
 use Rattle.basics.proofs.Booleans.{Test, passes, fails, test}
 
 -- ---- rows
@@ -67,8 +67,15 @@ judged-returned r t a t′ ws = go (test (eqb r 0))
     go (passes e) = rw e (sym (eqb-true r 0 e))
     go (fails e) = rw e
 
+pub judged-stop-with : (t a f t′ ws f′ : List ℕ) {r s : ℕ} → r ≡ s → r ≢ 0 → outcomeWith r t a f ≡ judgedWith s t a f t′ ws f′
+judged-stop-with t a f t′ ws f′ {r} e ne = rw (← e, ne-eqb r 0 ne)
+
+pub judged-done-with : (t a f t′ ws f′ : List ℕ) {u b g : List ℕ} {s : ℕ} → s ≡ 0 → u ≡ t′ → b ≡ putWords a 0 ws → g ≡ f′
+    → outcomeWith 0 u b g ≡ judgedWith s t a f t′ ws f′
+judged-done-with t a f t′ ws f′ {s} z x y v = rw (eq-eqb s 0 z, x, y, v)
+
 pub judged-stop : (t a t′ ws : List ℕ) {r s : ℕ} → r ≡ s → r ≢ 0 → outcome r t a ≡ judged s t a t′ ws
-judged-stop t a t′ ws {r} e ne = rw (← e, ne-eqb r 0 ne)
+judged-stop t a t′ ws = judged-stop-with t a [] t′ ws []
 
 pub judged-done : (t a t′ ws : List ℕ) {u b : List ℕ} {s : ℕ} → s ≡ 0 → u ≡ t′ → b ≡ putWords a 0 ws → outcome 0 u b ≡ judged s t a t′ ws
-judged-done t a t′ ws {s} z x y = rw (eq-eqb s 0 z, x, y)
+judged-done t a t′ ws z x y = judged-done-with t a [] t′ ws [] z x y refl

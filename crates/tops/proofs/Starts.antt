@@ -2,7 +2,7 @@
 use mathlib.Core.Path.{_≡_, refl, sym, ap, _∙_}
 use mathlib.Core.Bool.{Bool, true, false}
 use mathlib.Core.List.{List}
-use Prim.Native.Nat.{ℕ, _+_, _-_, _*_, _≤_, _<_}
+use Prim.Native.Nat.{ℕ, _+_, _*_, _≤_, _<_}
 use native.Mathlib.Omega.{arith}
 use native.Mathlib.Decide.{ℕ-discrete}
 use lib.ListN.{length, getD, set}
@@ -13,7 +13,7 @@ use Rattle.rules.specs.Records.{History, State, history, sends}
 use Rattle.rules.specs.Table.{heading, width, start, recordsAt, decoded}
 use Rattle.rules.specs.Lines.{upto, part, failed}
 use Rattle.rules.specs.FailureLine.{lastSaved, top}
-use Rattle.rules.specs.Calls.{tableRows}
+use Rattle.rules.specs.Calls.{first, tableRows}
 use Rattle.basics.proofs.Older.{same}
 use Rattle.records.proofs.Histories.{sends-older}
 use Rattle.records.proofs.Rows.{none-met}
@@ -27,6 +27,13 @@ use Rattle.tops.specs.Tops.{Laid, Counted, Over}
 use Rattle.tables.proofs.Scans.{records-upto}
 
 -- ---- a table whose rows are passed
+
+pub laid : (t : List ℕ) → Bytes t → {r n E : ℕ} → r ≡ first (tableRows t) → r ≡ 0 → n ≡ word t 0 → E ≡ word t 1 → Laid t n E
+laid t b e z i j =
+    let W = valid t b (none-met (tableRows t) tt (sym e ∙ z)) in
+    let g = W .range .processes in
+    let h = W .range .records in
+    (sym e ∙ z, i, j, omega arith, omega arith)
 
 module _ (t : List ℕ) (b : Bytes t) {n E : ℕ} (L : Laid t n E) where
   pub is-valid : Valid t
@@ -42,6 +49,27 @@ module _ (t : List ℕ) (b : Bytes t) {n E : ℕ} (L : Laid t n E) where
   section p lt i = head t is-valid p (let e = L .1 in omega arith) (L .2) i
 
   -- process p's part of a cut, up to position x, where its section starts at word `at`
+  pub record Stands (P : List ℕ) (p at x : ℕ) : Type 0 where
+    pub inside : 4 * (at + heading + width * x) ≤ length t
+    pub small : x ≤ E
+    pub least : x ≤ word t at
+    pub here : part (decoded t) P p ≡ recordsAt (word t) (at + heading) x
+
+  pub stands : (P : List ℕ) (p : ℕ) → p < n → {at : ℕ} → at ≡ start E p → {x : ℕ} → x ≡ getD P p 0
+      → getD P p 0 ≤ length (history (decoded t) p) → Stands P p at x
+  stands P p lt {at} i {x} y within =
+      let H = section p lt i in
+      let c = H .count in
+      let short = H .short in
+      let room = H .inside in
+      record {
+        inside = omega arith;
+        small = omega arith;
+        least = omega arith;
+        here = rw (← y, ← H .events) (records-upto (word t) (at + heading) x (word t at) (omega arith));
+      }
+
+  -- with the count of sends before it
   pub record View (P S : List ℕ) (p at x : ℕ) : Type 0 where
     pub inside : 4 * (at + heading + width * x) ≤ length t
     pub small : x ≤ 1024
@@ -53,23 +81,17 @@ module _ (t : List ℕ) (b : Bytes t) {n E : ℕ} (L : Laid t n E) where
   pub view : (P S : List ℕ) → Counted (decoded t) P S → (p : ℕ) → p < n → {at : ℕ} → at ≡ start E p
       → {x : ℕ} → x ≡ getD P p 0 → View P S p at x
   view P S C p lt {at} i {x} y =
-      let H = section p lt i in
       let e = processes in
-      let within = C .within p (omega arith) in
-      let c = H .count in
-      let short = H .short in
-      let most = H .most in
-      let room = H .inside in
-      let here : part (decoded t) P p ≡ recordsAt (word t) (at + heading) x =
-      rw (← y, ← H .events) (records-upto (word t) (at + heading) x (word t at) (omega arith))
-      in
+      let U = stands P p lt i y (C .within p (omega arith)) in
+      let small = U .small in
+      let most = L .4 in
       record {
-        inside = omega arith;
+        inside = U .inside;
         small = omega arith;
-        all = sym (H .events);
-        least = omega arith;
-        here = here;
-        sent = C .counted p (omega arith) ∙ ap sends here;
+        all = sym (section p lt i .events);
+        least = U .least;
+        here = U .here;
+        sent = C .counted p (omega arith) ∙ ap sends (U .here);
       }
 
   -- a position and the count of sends before it are small

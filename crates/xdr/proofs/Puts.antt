@@ -164,6 +164,17 @@ all-put (x ∷ y ∷ z ∷ u ∷ t) (v ∷ vs) le =
     cons-puts (v / 16777216 % 256) (v / 65536 % 256) (v / 256 % 256) (v % 256) t 0 vs
     ∙ rw m (ap (λ (l : List ℕ). v / 16777216 % 256 ∷ v / 65536 % 256 ∷ v / 256 % 256 ∷ v % 256 ∷ l) (all-put t vs (omega arith)))
 
+-- the first word put after those behind it
+pub put-first : (t : List ℕ) (v : ℕ) (vs : List ℕ) → 4 ≤ length t → putWord (putWords t 1 vs) 0 v ≡ putWords t 0 (v ∷ vs)
+unfolding putWord putWords
+put-first [] v vs le = absurd (omega arith)
+put-first (x ∷ []) v vs le = absurd (omega arith)
+put-first (x ∷ y ∷ []) v vs le = absurd (omega arith)
+put-first (x ∷ y ∷ z ∷ []) v vs le = absurd (omega arith)
+put-first (x ∷ y ∷ z ∷ u ∷ t) v vs le =
+    ap (λ (s : List ℕ). putWord s 0 v) (cons-puts x y z u t 0 vs)
+    ∙ sym (cons-puts (v / 16777216 % 256) (v / 65536 % 256) (v / 256 % 256) (v % 256) t 0 vs)
+
 -- over the whole of them
 pub whole-put : (t ws : List ℕ) → length t ≡ 4 * length ws → putWords t 0 ws ≡ bytes ws
 whole-put t ws l =

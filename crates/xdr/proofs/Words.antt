@@ -43,6 +43,10 @@ pub bytes-length : (ws : List ℕ) → length (bytes ws) ≡ 4 * length ws
 bytes-length [] = refl
 bytes-length (w ∷ ws) = let r = bytes-length ws in omega arith
 
+pub bytes-append : (vs ws : List ℕ) → bytes (vs ++ ws) ≡ bytes vs ++ bytes ws
+bytes-append [] ws = refl
+bytes-append (v ∷ vs) ws = rw (bytes-append vs ws)
+
 -- words that fit
 abbrev pub Small : List ℕ → Type 0
 Small [] = Unit {0}
@@ -56,6 +60,10 @@ pub small-at : (xs : List ℕ) → Small xs → (j : ℕ) → getD xs j 0 < 4294
 small-at [] a j = omega arith
 small-at (x ∷ xs) a zero = a .0
 small-at (x ∷ xs) a (suc j) = small-at xs (a .1) j
+
+pub all-small : (xs : List ℕ) → ((j : ℕ) → j < length xs → getD xs j 0 < 4294967296) → Small xs
+all-small [] h = tt
+all-small (x ∷ xs) h = (h 0 (omega arith), all-small xs (λ j lt. h (suc j) (omega arith)))
 
 pub small-zeros : (m : ℕ) → Small (replicate m 0)
 small-zeros zero = tt

@@ -1,10 +1,10 @@
-use Prim.Native.Nat.{_≤_, _-_, _+_, _*_}
+use Prim.Native.Nat.{_≤_, _-_, _+_}
 use mathlib.Core.Path.{_≡_, refl, ap, _∙_}
 use native.Mathlib.Omega.{arith}
 use lib.Dec.{eqb}
 use lib.ListN.{length, length-set}
 use borrow.Author.Needs.{needs}
-use Rattle.cuts.specs.Tests.{noted}
+use Rattle.cuts.specs.Notes.{noted}
 use Rattle.rules.specs.Records.{sends}
 use Rattle.rules.specs.Table.{recordsAt}
 use Rattle.tables.proofs.Scans.{sends-next, sends-at-most}
@@ -14,12 +14,12 @@ use Rattle.cuts.proofs.note.Statement.{statement}
 use Rattle.cuts.proofs.note.Tie as tie
 
 abbrev Inv-loop : tie.InvT-loop
-Inv-loop t at c e q to₀ k₀ i₀ to k i =
-    (to ≡ noted e q (recordsAt (word t) at i) to₀) × (k ≡ sends (recordsAt (word t) at i)) × (i ≤ c) × (k ≤ i) ×
+Inv-loop t at c from to₀ k₀ i₀ to k i =
+    (to ≡ noted from (recordsAt (word t) at i) to₀) × (k ≡ sends (recordsAt (word t) at i)) × (i ≤ c) × (k ≤ i) ×
     (length to ≡ length to₀)
 
 abbrev μ-loop : tie.MeasureT-loop
-μ-loop t at c e q to₀ k₀ i₀ to k i = c - i
+μ-loop t at c from to₀ k₀ i₀ to k i = c - i
 
 loop-holds : tie.Need-loop-holds Inv-loop μ-loop
 loop-holds c = (refl, refl, search needs, search needs, refl)
@@ -46,9 +46,6 @@ cast-to : tie.Need-cast-to Inv-loop μ-loop
 cast-to c =
     let m = note-small (eqb (c .before .before .get-usize .result) 3) (c .before .get-usize2 .result) (c .pick .ensures) in
     omega arith
-
-mul-to : tie.Need-mul-to Inv-loop μ-loop
-mul-to c = search needs
 
 add-to : tie.Need-add-to Inv-loop μ-loop
 add-to c = search needs
@@ -80,12 +77,12 @@ loop-again c =
     let w = word (a .t .now) in
     let s = c5 .loop in
     let more = sends-next w (a .at) (s .i) (c3 .get-usize .ensures .0) (s .inv .1) (c .pick2 .ensures) in (
-      note-next w (a .at) (a .e) (a .q) (a .to .now) (s .i) (c3 .get-usize .ensures .0) (c .before .before .get-usize2 .ensures .0)
+      note-next w (a .at) (a .from) (a .to .now) (s .i) (c3 .get-usize .ensures .0) (c .before .before .get-usize2 .ensures .0)
           (s .inv .0) (s .inv .1) (c .before .pick .ensures),
       more,
       search needs,
       omega (arith, more, sends-at-most w (a .at) (s .i + 1)),
-      length-set (s .to) (a .q * a .e + s .k + 1) (c .before .pick .result) ∙ s .inv .4,
+      length-set (s .to) (a .from + s .k + 1) (c .before .pick .result) ∙ s .inv .4,
     )
 
 same-length : tie.Need-same-length Inv-loop μ-loop
@@ -94,9 +91,12 @@ same-length c = search needs
 returns : tie.Need-returns Inv-loop μ-loop
 returns c =
     let c4 = c .before .before .before .before in
-    let h : c .before .loop .i ≡ c4 .args .c = omega arith in
-    c .before .loop .inv .0 ∙ ap
-    (λ m. noted (c4 .args .e) (c4 .args .q) (recordsAt (word (c4 .args .t .now)) (c4 .args .at) m) (c4 .args .to .now)) h
+    let a = c4 .args in
+    let s = c .before .loop in
+    let h : s .i ≡ a .c = omega arith in (
+      s .inv .0 ∙ ap (λ m. noted (a .from) (recordsAt (word (a .t .now)) (a .at) m) (a .to .now)) h,
+      s .inv .1 ∙ ap (λ m. sends (recordsAt (word (a .t .now)) (a .at) m)) h,
+    )
 
 pub note-spec : {M : Type 1} → statement M
 note-spec =
@@ -112,7 +112,6 @@ note-spec =
     get-usize-requires-2
     pick-requires
     cast-to
-    mul-to
     add-to
     add-to-2
     slice-write-to

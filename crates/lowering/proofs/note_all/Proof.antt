@@ -9,6 +9,7 @@ use Rattle.rules.specs.Table.{decoded}
 use Rattle.lowering.proofs.Notes.{note-turn}
 use Rattle.tops.proofs.Starts.{section}
 use Rattle.lowering.proofs.note_all.Statement.{statement}
+use Rattle.tables.proofs.Ranges.{product}
 use Rattle.lowering.proofs.note_all.Tie as tie
 
 abbrev Inv-loop : tie.InvT-loop
@@ -35,6 +36,15 @@ get-usize-requires c κs =
     (c .before .loop-test .taken) (c .start .ensures .0) in
     omega (arith, H .inside)
 
+mul-note : tie.Need-mul-note Inv-loop μ-loop
+mul-note c =
+    let c3 = c .before .before .before in
+    let c6 = c3 .before .before .before in
+    let a = c6 .args in
+    let L = c6 .pre .0 in
+    let m = product (c3 .loop .p) (a .e) (omega (arith, L .3)) (L .4) in
+    omega arith
+
 note-requires : tie.Need-note-requires Inv-loop μ-loop
 note-requires c κs =
     let c3 = c .before .before .before in
@@ -47,7 +57,7 @@ note-requires c κs =
     (c .before .before .start .ensures .0) in
     let z = c .before .get-usize .ensures .0 in
     let m = mul-le-mul-right {m = p + 1} {n = a .n} (a .e) (omega arith) in
-    (omega (arith, H .short), omega arith, omega arith, omega (arith, H .short, H .inside), omega arith)
+    (omega (arith, H .short), omega (arith, H .short, H .inside), omega (arith, H .short))
 
 add-p : tie.Need-add-p Inv-loop μ-loop
 add-p c = search needs
@@ -68,7 +78,7 @@ loop-again c =
     let m = mul-le-mul-right {m = s .p + 1} {n = a .n} (a .e) (omega arith) in
     let u = note-turn (a .t .now) (λ i. omega (arith, c9 .shared-slice-known .given i)) (c10 .pre .0) (s .p)
     (c6 .loop-test .taken) (c5 .start .ensures .0) (s .to) (omega arith) (s .inv .1) (s .inv .2) (c4 .get-usize .ensures .0)
-    (c .before .before .note .ensures) in
+    (c .before .before .note .ensures .0) in
     (u .0 ∙ s .inv .0, u .1, u .2, omega arith)
 
 same-length : tie.Need-same-length Inv-loop μ-loop
@@ -92,6 +102,7 @@ note-all-spec =
     start-requires
     add-note
     get-usize-requires
+    mul-note
     note-requires
     add-p
     loop-less
