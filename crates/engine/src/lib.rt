@@ -1,8 +1,9 @@
-// The exported calls (include/ckpt.h). Each is held to its outcome under document 01, for all bytes, lengths and numbers.
+// The exported calls (include/ckpt.h). Each is held to its outcome under documents 01 and 02, for all bytes, lengths and numbers.
 ghost use mathlib.Core.Path.{_≡_};
 ghost use mathlib.Core.List.{[]};
 ghost use Rattle.rules.specs.Steps.{checkpoint, send, receipt};
-ghost use Rattle.rules.specs.Calls.{outcome, freshOn, stepOn, lineOn, failedOn};
+ghost use Rattle.rules.specs.Calls.{outcome, outcomeWith, freshOn, stepOn, lineOn, failedOn};
+ghost use Rattle.rules.specs.Resend.{resendOn};
 
 #[no_mangle]
 pub extern "C" fn ckpt_fresh(table: &mut [u8], n: u32, e: u32) -> u32
@@ -44,4 +45,11 @@ pub extern "C" fn ckpt_failed(table: &[u8], area: &mut [u8], mask: u32) -> u32
     ensures { λ r. ⌜ outcome r (now (table .entry)) (now (area .exit)) ≡ failedOn (now (table .entry)) (now (area .entry)) mask ⌝ }
 {
     failure::failed(table, area, mask)
+}
+
+#[no_mangle]
+pub extern "C" fn ckpt_resend(table: &[u8], positions: &[u8], area: &mut [u8]) -> u32
+    ensures { λ r. ⌜ outcomeWith r (now (table .entry)) (now (area .exit)) (now (positions .entry)) ≡ resendOn (now (table .entry)) (now (positions .entry)) (now (area .entry)) ⌝ }
+{
+    resend::resend(table, positions, area)
 }

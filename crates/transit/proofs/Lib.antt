@@ -1,0 +1,4 @@
+pub mod Places
+pub mod Groups
+pub mod Marked
+pub mod Turns
