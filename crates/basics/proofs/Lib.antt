@@ -1,3 +1,4 @@
 pub mod Booleans
 pub mod Bits
 pub mod Older
+pub mod Sums

@@ -6,3 +6,4 @@ pub mod NumberedLines
 pub mod Cuts
 pub mod FailureLines
 pub mod Masks
+pub mod Transit

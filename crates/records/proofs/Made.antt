@@ -1,4 +1,4 @@
--- What holds of every state that a list of calls makes: sizes, numbers that never fall, receipts with their sends.
+-- What holds of every state that a list of calls makes: sizes, numbers that never fall, receipts with their sends, each once.
 use mathlib.Core.Path.{_≡_, refl, _∙_, subst}
 use mathlib.Core.Logic.{_≢_, _⊎_, inl, inr}
 use mathlib.Core.Bool.{Bool, true, false, cond}
@@ -9,7 +9,7 @@ use native.Mathlib.Omega.{arith}
 use lib.Dec.{eqb, ltb, leb}
 use lib.ListN.{length, set, length-set, length-replicate}
 use borrow.Author.Tests.{ltb-true, ltb-false, leb-false, eqb-true}
-use Rattle.rules.specs.Records.{Event, basic, forced, sent, received, History, State, history, number, sends, carried, hasSend}
+use Rattle.rules.specs.Records.{Event, basic, forced, sent, received, History, State, history, number, sends, carried, hasSend, hasReceipt}
 use Rattle.rules.specs.Table.{fresh}
 use Rattle.rules.specs.Steps.{Call, checkpoint, send, receipt, forces, carries, grown, stepped}
 use Rattle.rules.specs.FailureLine.{sum}
@@ -57,6 +57,24 @@ grown-named n E s p (receipt q k) A h c N = ((A .message .0, A .message .1), go 
     go true = (tt, N)
     go false = N
 
+-- ---- no receipt twice
+
+abbrev pub New : Event → History → Type 0
+New (basic m) h = Unit {0}
+New (forced m) h = Unit {0}
+New (sent q) h = Unit {0}
+New (received q k) h = hasReceipt h q k ≡ false
+
+-- by row 8
+grown-new : (n E : ℕ) (s : State) (p : ℕ) (call : Call) → Accepted n E s p call → (c : ℕ) → Each New (history s p) → Each New (grown (history s p) call c)
+grown-new n E s p checkpoint A c N = (tt, N)
+grown-new n E s p (send q) A c N = (tt, N)
+grown-new n E s p (receipt q k) A c N = go (forces (history s p) c)
+  where
+    go : (b : Bool) → Each New (received q k ∷ (cond b (forced c ∷ []) [] ++ history s p))
+    go true = (A .message .3, (tt, N))
+    go false = (A .message .3, N)
+
 -- ---- the number carried is at most the sender's number
 
 pub carried-le : (h : History) (k : ℕ) → Rising h → carried h k ≤ number h
@@ -98,6 +116,7 @@ pub record Sound (n E : ℕ) (s : State) : Type 0 where
   pub rising : (p : ℕ) → Rising (history s p)
   pub sourced : (p : ℕ) → Sourced s p (history s p)
   pub named : (p : ℕ) → Each (Name n p) (history s p)
+  pub single : (p : ℕ) → Each New (history s p)
   pub bounded : (p : ℕ) → number (history s p) ≤ total s
 
 grown-rising : (h : History) (call : Call) (c : ℕ) → Rising h → Rising (grown h call c)
@@ -163,6 +182,7 @@ made-step n E s p call M A =
           (λ q k e. holds-older (o q) p k (message-held n E s p call A q k e)) (each-all (Source s p) (Source f p) (source-later s f o p) h (M .sourced p)))
           (λ r ne. each-all (Source s r) (Source f r) (source-later s f o r) (history s r) (M .sourced r));
       named = each-step (λ (r : ℕ) (x : History). Each (Name n r) x) s p g lt (grown-named n E s p call A h c (M .named p)) (λ r ne. M .named r);
+      single = each-step (λ (r : ℕ) (x : History). Each New x) s p g lt (grown-new n E s p call A c (M .single p)) (λ r ne. M .single r);
       bounded = each-step (λ (r : ℕ) (x : History). number x ≤ total f) s p g lt
           (let a = grown-number h call c (total s) (M .bounded p) (carries-le n E s M call) in omega arith)
           (λ r ne. let a = M .bounded r in omega arith);
@@ -176,6 +196,7 @@ made-fresh n E =
       rising = λ p. rw (history-fresh n p) tt;
       sourced = λ p. rw (history-fresh n p) tt;
       named = λ p. rw (history-fresh n p) tt;
+      single = λ p. rw (history-fresh n p) tt;
       bounded = λ p. rw (history-fresh n p) zero-le;
     }
 

@@ -2,14 +2,14 @@
 use mathlib.Core.Path.{_≡_, refl, sym, ap, ap₂, _∙_}
 use mathlib.Core.Bool.{Bool, true, false, not, cond}
 use mathlib.Core.List.{List, [], _∷_}
-use Prim.Native.Nat.{ℕ, suc, _*_, _≤_}
+use Prim.Native.Nat.{ℕ, _*_, _≤_}
 use native.Mathlib.Omega.{arith}
 use lib.Dec.{eqb}
 use lib.ListN.{length, length-map}
 use borrow.Author.Tests.{le-leb, le-ltb, eq-eqb, not-false}
 use Rattle.xdr.specs.Words.{word, bytes, putWords}
 use Rattle.xdr.proofs.Puts.{whole-put}
-use Rattle.xdr.proofs.Words.{Small, words-bytes}
+use Rattle.xdr.proofs.Words.{Small, all-small, words-bytes}
 use Rattle.rules.specs.Records.{State, history}
 use Rattle.rules.specs.Table.{inRange, size, layout, fresh, decoded, wellLaid}
 use Rattle.rules.specs.Steps.{stepped}
@@ -19,7 +19,7 @@ use Rattle.rules.specs.Lists.{Entry, entry, entryOn, outcomesOn, tableAfter, Ma
 use Rattle.theorems.specs.TwoLists.{AfterList, Both, TwoLists}
 use Rattle.records.proofs.Rows.{NoneMet, none-met, first-append, first-none, judged-returned}
 use Rattle.records.proofs.Made.{Sound, made, made-after, made-fresh, never-ten}
-use Rattle.records.proofs.NumberedLines.{numbered-le, line-clean}
+use Rattle.records.proofs.NumberedLines.{position, numbered-le, line-clean}
 use Rattle.tables.proofs.Laid.{layout-n, layout-E, layout-length, layout-ok, layout-decoded}
 use Rattle.tables.proofs.Ranges.{InRange, in-range}
 use Rattle.theorems.proofs.SameCalls.{same-state}
@@ -28,7 +28,7 @@ use Rattle.theorems.proofs.SameCalls.{same-state}
 
 module _ (n E : ℕ) (d : InRange n E) where
   module _ (s : State) (M : Sound n E s) where
-    unmet-rows : NoneMet (tableRows (layout n E s))
+    pub unmet-rows : NoneMet (tableRows (layout n E s))
     unfolding wellLaid
     unmet-rows =
         let t = layout n E s in
@@ -68,7 +68,7 @@ module _ (n E : ℕ) (d : InRange n E) where
     entry-table : (e : Entry) → entryOn (layout n E s) e .table ≡ layout n E (after n E s e)
     entry-table e = ap (λ (o : Outcome). o .table) (entry-said e) ∙ said-table e
 
-    line-said : (N : ℕ) (area : List ℕ) → length area ≡ 4 * n → lineOn (layout n E s) area N ≡ outcome 0 (layout n E s) (bytes (numberedLine N s))
+    pub line-said : (N : ℕ) (area : List ℕ) → length area ≡ 4 * n → lineOn (layout n E s) area N ≡ outcome 0 (layout n E s) (bytes (numberedLine N s))
     unfolding lineOn
     line-said N area l =
         let t = layout n E s in
@@ -89,12 +89,9 @@ module _ (n E : ℕ) (d : InRange n E) where
   table-run (e ∷ l) s M = ap (λ (t : List ℕ). tableAfter t l) (entry-table s M e) ∙ table-run l (after n E s e) (made-after n E s e M)
 
   small-line : (N : ℕ) (s : State) → ((p : ℕ) → length (history s p) ≤ E) → Small (numberedLine N s)
-  small-line N [] short = tt
-  small-line N (h ∷ s) short =
-      let a = numbered-le N h in
-      let b = short 0 in
-      let c = d .records in
-      (omega arith, small-line N s (λ p. short (suc p)))
+  small-line N s short =
+      let few = d .records in
+      all-small (numberedLine N s) (λ p lt. rw (position N s p) (let a = numbered-le N (history s p) in let b = short p in omega arith))
 
 -- ---- one list, and two
 
@@ -140,18 +137,18 @@ fresh-accepted lent n E r =
 
 -- a table made by accepted calls holds a state that a list of calls makes
 pub record Holds (n E : ℕ) (t : List ℕ) : Type 0 where
-  pub state : State
-  pub sound : Sound n E state
-  pub is : t ≡ layout n E state
+  pub range : InRange n E
+  pub sound : Sound n E (decoded t)
+  pub is : t ≡ layout n E (decoded t)
 
 pub made-holds : (n E : ℕ) (t : List ℕ) → MadeByCalls n E t → Holds n E t
 made-holds n E t M =
     let a = fresh-accepted (M .lent) n E (M .accepted) in
-    record {
-      state = run n E (fresh n) (M .list);
-      sound = made n E (M .list);
-      is = sym (M .leaves) ∙ ap (λ (x : List ℕ). tableAfter x (M .list)) (a .1) ∙ after-list n E (a .0) (M .list) .left;
-    }
+    let s = run n E (fresh n) (M .list) in
+    let S = made n E (M .list) in
+    let e : t ≡ layout n E s = sym (M .leaves) ∙ ap (λ (x : List ℕ). tableAfter x (M .list)) (a .1) ∙ after-list n E (a .0) (M .list) .left in
+    let d : decoded t ≡ s = ap decoded e ∙ layout-decoded n E (a .0) s S in
+    record { range = a .0; sound = rw d S; is = rw d e }
 
 pub two-lists : TwoLists
 two-lists n E lent₁ lent₂ l₁ l₂ r₁ r₂ =

@@ -1,3 +1,5 @@
 pub mod SameCalls
 pub mod Demand3
 pub mod Demand2
+pub mod SentAgain
+pub mod BilledOnce

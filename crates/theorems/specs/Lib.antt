@@ -1,2 +1,4 @@
 pub mod TwoLists
 pub mod Latest
+pub mod SentAgain
+pub mod BilledOnce
