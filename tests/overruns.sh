@@ -13,8 +13,8 @@ seed=1
 origin="fuzz, case [0-9]+, CKPT_SEED=$seed"
 missed=0
 
-# what overrun.c wraps: a call that only reads the table, and one that writes it
-calls=(ckpt_line ckpt_send)
+# what overrun.c wraps: a call that only reads the table, one that writes it, and one that is lent more than table and area
+calls=(ckpt_line ckpt_send ckpt_resend)
 
 # wrapped WORDS..: makes the fuzzer with overrun.c, compiled with these words, around these calls of the archive
 wrapped() {
@@ -73,17 +73,26 @@ engine "no fault"
 wrapped && passes
 told
 
-for block in table area; do
-    touches read_before "$block" "SEGV" "caused by a READ" "$block with a closed page in front"
-    touches read_behind "$block" "SEGV" "caused by a READ" "$block with a closed page behind"
-    touches write_before "$block" "SEGV" "caused by a WRITE" "$block with a closed page in front"
-    touches write_behind "$block" "SEGV" "caused by a WRITE" "$block with a closed page behind"
-    touches memcpy_behind "$block" "heap-buffer-overflow" "READ of size 2" "$block in a heap block"
-    touches memset_behind "$block" "heap-buffer-overflow" "WRITE of size 1" "$block in a heap block"
+for block in table area "table of resend" "area of resend" positions; do
+    lent=${block% of resend}
+    touches read_before "$block" "SEGV" "caused by a READ" "$lent with a closed page in front"
+    touches read_behind "$block" "SEGV" "caused by a READ" "$lent with a closed page behind"
+    touches write_before "$block" "SEGV" "caused by a WRITE" "$lent with a closed page in front"
+    touches write_behind "$block" "SEGV" "caused by a WRITE" "$lent with a closed page behind"
+    touches memcpy_behind "$block" "heap-buffer-overflow" "READ of size 2" "$lent in a heap block"
+    touches memset_behind "$block" "heap-buffer-overflow" "WRITE of size 1" "$lent in a heap block"
 done
 
 engine "a wrong number"
 wrapped -DWRONG_NUMBER && finds "differ in the number returned" "$origin" "proved: +returned 5" "reference: returned 6"
+told
+
+engine "a byte behind the list"
+wrapped -DBEHIND_LIST && finds "differ in the area" "$origin" "Resend" "proved: +returned 0"
+told
+
+engine "a count in an area that is too short"
+wrapped -DEARLY_COUNT && finds "differ in the area" "$origin" "Resend" "proved: +returned 13"
 told
 
 engine "two calls swapped"

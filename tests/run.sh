@@ -73,7 +73,7 @@ examples_answered() {
 
 check "the engine's archive" make lib
 check "the worked controller from C" worked_host
-check "the header as C99 and document 01's table" header_in_c99
+check "the header as C99 and the documents' tables" header_in_c99
 check "the header as C++17" header_in_cpp17
 check "the archive exports the header's calls alone" symbols
 check "an installed library is found and linked by pkg-config" installed

@@ -30,7 +30,8 @@ struct bytes {
 };
 uint32_t fuzz_call(uint32_t place, const uint32_t *numbers, const struct bytes *lent, size_t count);
 
-/* Room for the longest block, which is the largest table and what is added to it; a multiple of every usual page size. */
+/* Room for the longest block, which is the largest table, or the longest area, and what is added to it; a multiple of every usual
+   page size. */
 #define ROOM ((size_t)1 << 20)
 /* A case takes some milliseconds. */
 #define LONGEST_CASE 60
@@ -38,10 +39,10 @@ uint32_t fuzz_call(uint32_t place, const uint32_t *numbers, const struct bytes *
 #define LONG_RUN 5
 
 /* In the order of CALLS in tests/cases. */
-enum call { FRESH, CHECKPOINT, SEND, RECEIPT, LINE, FAILED };
+enum call { FRESH, CHECKPOINT, SEND, RECEIPT, LINE, FAILED, RESEND };
 /* What a call is lent at most, in the order of its sort there. */
-enum lent { TABLE, AREA, LENT };
-static const char *const lent_names[LENT] = {"table", "area"};
+enum lent { TABLE, AREA, POSITIONS, LENT };
+static const char *const lent_names[LENT] = {"table", "area", "positions"};
 enum way { HEAP, PAGE_BEHIND, PAGE_IN_FRONT, WAYS };
 static const char *const way_names[WAYS] = {"in a heap block", "with a closed page behind", "with a closed page in front"};
 
@@ -111,6 +112,7 @@ static uint32_t on_engine(enum call call, const uint32_t *x, const struct bytes 
     case RECEIPT: return ckpt_receipt(OF(TABLE), OF(AREA), x[0], x[1], x[2]);
     case LINE: return ckpt_line(OF(TABLE), OF(AREA), x[0]);
     case FAILED: return ckpt_failed(OF(TABLE), OF(AREA), x[0]);
+    case RESEND: return ckpt_resend(OF(TABLE), OF(POSITIONS), OF(AREA));
     }
     end_badly("no such call");
     return 0;
@@ -126,7 +128,7 @@ uint32_t fuzz_call(uint32_t place, const uint32_t *numbers, const struct bytes *
     return returned;
 }
 
-/* The case's number says how it lends: every way for a table meets every way for an area. */
+/* The case's number says how it lends: every way for one of the blocks meets every way for the others. */
 static void choose_ways(void) {
     uint64_t left = number;
     for (int i = 0; i < LENT; i++, left /= WAYS) lenders[i].way = (enum way)(left % WAYS);

@@ -1,6 +1,6 @@
-/* The header's names against document 01, in what C99 and C++17 have in common. Every row of the document's table "Where a call is
-   stopped" is met by calls that meet no earlier one; the lengths are the document's; areas of no bytes are refused by their
-   length. */
+/* The header's names against documents 01 and 02, in what C99 and C++17 have in common. Every row of document 01's table "Where a
+   call is stopped" and every row that document 02 adds is met by calls that meet no earlier one; the lengths are the documents';
+   areas of no bytes are refused by their length. */
 #include <ckpt.h>
 #include <ckpt.h> /* once more: it may be included twice */
 
@@ -9,14 +9,15 @@
 
 #include "table.h"
 
-#if CKPT_TABLE_LENGTH(16, 1024) != 196808 || CKPT_BAD_MASK != 11
+#if CKPT_TABLE_LENGTH(16, 1024) != 196808 || CKPT_RESEND_MOST(16, 1024) != 196612 || CKPT_AREA_TOO_SHORT != 13
 #error "the header's macros can't be used by the preprocessor"
 #endif
 
 enum { N = 3, E = 2, NO_BYTES = 0 };
 
 static uint8_t table[CKPT_TABLE_LENGTH(N, E)];
-static uint8_t area[CKPT_FAILED_LENGTH(N) + 1];
+static uint8_t area[CKPT_RESEND_MOST(N, E) + 1];
+static uint8_t positions[CKPT_LINE_LENGTH(N) + 1]; /* as a line answers them, and a byte more */
 static int wrong;
 
 static void same(int line, const char *what, unsigned long got, unsigned long stated) {
@@ -27,16 +28,18 @@ static void same(int line, const char *what, unsigned long got, unsigned long st
 #define SAME(got, stated) same(__LINE__, #got, got, stated)
 
 #define LENT table, sizeof table
+#define POSITIONS positions, CKPT_LINE_LENGTH(N)
 static uint32_t fresh(uint32_t n, uint32_t e) { return ckpt_fresh(LENT, n, e); }
 static uint32_t checkpoint(uint32_t p) { return ckpt_checkpoint(LENT, area, CKPT_CHECKPOINT_LENGTH, p); }
 static uint32_t send(uint32_t p, uint32_t q) { return ckpt_send(LENT, area, CKPT_SEND_LENGTH, p, q); }
 static uint32_t receipt(uint32_t p, uint32_t q, uint32_t k) { return ckpt_receipt(LENT, area, CKPT_RECEIPT_LENGTH, p, q, k); }
 static uint32_t line(uint32_t number) { return ckpt_line(LENT, area, CKPT_LINE_LENGTH(N), number); }
 static uint32_t failed(uint32_t mask) { return ckpt_failed(LENT, area, CKPT_FAILED_LENGTH(N), mask); }
+static uint32_t resend(size_t length) { return ckpt_resend(LENT, POSITIONS, area, length); }
 
-/* All calls but fresh return the number, the table being lent with this length, and an area longer than the answer by `more`
-   bytes. */
-static void all(uint32_t number, uint8_t *lent, size_t length, size_t more) {
+/* All calls with areas of one length return the number, the table being lent with this length, and an area longer than the answer
+   by `more` bytes. */
+static void exact(uint32_t number, uint8_t *lent, size_t length, size_t more) {
     SAME(ckpt_checkpoint(lent, length, area, CKPT_CHECKPOINT_LENGTH + more, 0), number);
     SAME(ckpt_send(lent, length, area, CKPT_SEND_LENGTH + more, 0, 1), number);
     SAME(ckpt_receipt(lent, length, area, CKPT_RECEIPT_LENGTH + more, 0, 1, 1), number);
@@ -44,7 +47,13 @@ static void all(uint32_t number, uint8_t *lent, size_t length, size_t more) {
     SAME(ckpt_failed(lent, length, area, CKPT_FAILED_LENGTH(N) + more, 0), number);
 }
 
-/* The rows' numbers, as the document has them. */
+/* All calls but fresh return the number, the table being lent with this length. */
+static void all(uint32_t number, uint8_t *lent, size_t length) {
+    exact(number, lent, length, 0);
+    SAME(ckpt_resend(lent, length, POSITIONS, area, sizeof area), number);
+}
+
+/* The rows' numbers, as the documents have them. */
 static void numbers(void) {
     SAME(CKPT_OK, 0);
     SAME(CKPT_BAD_DIMENSIONS, 1);
@@ -58,6 +67,8 @@ static void numbers(void) {
     SAME(CKPT_NO_RECORDS_LEFT, 9);
     SAME(CKPT_NUMBER_AT_LIMIT, 10);
     SAME(CKPT_BAD_MASK, 11);
+    SAME(CKPT_BAD_POSITIONS, 12);
+    SAME(CKPT_AREA_TOO_SHORT, 13);
 }
 
 /* Rows of the table itself: its length, n and E, its words. */
@@ -69,19 +80,19 @@ static void table_rows(void) {
     SAME(fresh(CKPT_MAX_PROCESSES, CKPT_MAX_RECORDS), CKPT_BAD_TABLE_LENGTH);
     SAME(ckpt_fresh(table, sizeof table - 1, N, E), CKPT_BAD_TABLE_LENGTH);
     SAME(fresh(N, E), CKPT_OK);
-    all(CKPT_BAD_TABLE_LENGTH, table, 7, 0);
-    all(CKPT_BAD_TABLE_LENGTH, table, sizeof table - 1, 0);
+    all(CKPT_BAD_TABLE_LENGTH, table, 7);
+    all(CKPT_BAD_TABLE_LENGTH, table, sizeof table - 1);
     put_word(table, 0, CKPT_MAX_PROCESSES + 1);
-    all(CKPT_BAD_DIMENSIONS, table, sizeof table, 0);
+    all(CKPT_BAD_DIMENSIONS, table, sizeof table);
     put_word(table, 0, N);
     put_word(table, section_at(E, N) - 1, 1);
-    all(CKPT_NOT_WELL_LAID, table, sizeof table, 0);
+    all(CKPT_NOT_WELL_LAID, table, sizeof table);
 }
 
 static void later_rows(void) {
     SAME(fresh(N, E), CKPT_OK);
-    all(CKPT_BAD_AREA_LENGTH, table, sizeof table, 1);
-    all(CKPT_BAD_AREA_LENGTH, table, sizeof table, (size_t)0 - 1); /* one byte shorter */
+    exact(CKPT_BAD_AREA_LENGTH, table, sizeof table, 1);
+    exact(CKPT_BAD_AREA_LENGTH, table, sizeof table, (size_t)0 - 1); /* one byte shorter */
     SAME(checkpoint(N), CKPT_BAD_PROCESS);
     SAME(send(N, 0), CKPT_BAD_PROCESS);
     SAME(receipt(N, 0, 1), CKPT_BAD_PROCESS);
@@ -109,6 +120,30 @@ static void later_rows(void) {
     SAME(ckpt_word(area, N + 1), 2);
 }
 
+/* On the table that later_rows left: process 0 has sent (0, 1), process 1 was forced and has got it. */
+static void resend_rows(void) {
+    put_word(positions, 0, 2);
+    put_word(positions, 1, 1);
+    SAME(ckpt_resend(LENT, POSITIONS - 1, area, sizeof area), CKPT_BAD_POSITIONS);
+    SAME(ckpt_resend(LENT, POSITIONS + 1, area, sizeof area), CKPT_BAD_POSITIONS);
+    SAME(resend(CKPT_RESEND_LENGTH(1) - 1), CKPT_AREA_TOO_SHORT);
+    memset(area, 0xee, sizeof area);
+    SAME(resend(CKPT_RESEND_MOST(N, E)), CKPT_OK);
+    SAME(ckpt_word(area, 0), 1);
+    SAME(ckpt_word(area, 1), 0);
+    SAME(ckpt_word(area, 2), 1);
+    SAME(ckpt_word(area, 3), 1);
+    SAME(ckpt_word(area, 4), 0xeeeeeeee);
+    SAME(resend(CKPT_RESEND_LENGTH(1)), CKPT_OK);
+    put_word(positions, 1, 2);
+    SAME(resend(CKPT_RESEND_LENGTH(0)), CKPT_OK);
+    SAME(ckpt_word(area, 0), 0);
+    put_word(positions, 0, 3);
+    SAME(resend(0), CKPT_BAD_POSITIONS);
+    put_word(positions, 0, 0xffffffff);
+    SAME(resend(sizeof area), CKPT_BAD_POSITIONS);
+}
+
 /* Number 10 is met only by a table that no call makes: n = 1, E = 2, one kind 1 record numbered 2. */
 static void number_at_limit(void) {
     memset(table, 0, sizeof table);
@@ -125,13 +160,16 @@ static void number_at_limit(void) {
 static void no_bytes(void) {
     SAME(ckpt_fresh(NULL, NO_BYTES, N, E), CKPT_BAD_TABLE_LENGTH);
     SAME(ckpt_fresh(NULL, NO_BYTES, 0, E), CKPT_BAD_DIMENSIONS);
-    all(CKPT_BAD_TABLE_LENGTH, NULL, NO_BYTES, 0);
+    all(CKPT_BAD_TABLE_LENGTH, NULL, NO_BYTES);
     SAME(fresh(N, E), CKPT_OK);
     SAME(ckpt_checkpoint(LENT, NULL, NO_BYTES, 0), CKPT_BAD_AREA_LENGTH);
     SAME(ckpt_send(LENT, NULL, NO_BYTES, 0, 1), CKPT_BAD_AREA_LENGTH);
     SAME(ckpt_receipt(LENT, NULL, NO_BYTES, 0, 1, 1), CKPT_BAD_AREA_LENGTH);
     SAME(ckpt_line(LENT, NULL, NO_BYTES, 0), CKPT_BAD_AREA_LENGTH);
     SAME(ckpt_failed(LENT, NULL, NO_BYTES, 0), CKPT_BAD_AREA_LENGTH);
+    SAME(ckpt_resend(LENT, NULL, NO_BYTES, NULL, NO_BYTES), CKPT_BAD_POSITIONS);
+    memset(positions, 0, sizeof positions);
+    SAME(ckpt_resend(LENT, POSITIONS, NULL, NO_BYTES), CKPT_AREA_TOO_SHORT);
 }
 
 static void lengths(void) {
@@ -146,6 +184,10 @@ static void lengths(void) {
     SAME(CKPT_RECEIPT_LENGTH, 8);
     SAME(CKPT_LINE_LENGTH(n + 1), 36);
     SAME(CKPT_FAILED_LENGTH(n + 1), 44);
+    SAME(CKPT_RESEND_LENGTH(0), 4);
+    SAME(CKPT_RESEND_LENGTH(n + 1), 112);
+    SAME(CKPT_RESEND_MOST(n + 1, e + 1), 4 + 12 * 9 * 257);
+    SAME(CKPT_RESEND_MOST(CKPT_MAX_PROCESSES, CKPT_MAX_RECORDS), 196612);
     SAME(ckpt_word(high, 1), 0xff8001fe);
 }
 
@@ -154,6 +196,7 @@ int main(void) {
     lengths();
     table_rows();
     later_rows();
+    resend_rows();
     number_at_limit();
     no_bytes();
     return wrong;

@@ -1,13 +1,16 @@
-/* An engine that goes wrong, to see that the fuzzer finds it (tests/overruns.sh): ckpt_line and ckpt_send of the archive, wrapped
-   by the linker. -DTOUCH is what both do first, one of the functions below, with the lent block that -DTOUCHED names; without these
-   they do what the archive's do. -DWRONG_NUMBER makes ckpt_send return 5 where 6 is due. Compiled without a sanitizer, as the
-   archive is. */
+/* An engine that goes wrong, to see that the fuzzer finds it (tests/overruns.sh): ckpt_line, ckpt_send and ckpt_resend of the
+   archive, wrapped by the linker. -DTOUCH is what they do first, one of the functions below, with the lent block that -DTOUCHED
+   names; without these they do what the archive's do. -DWRONG_NUMBER makes ckpt_send return 5 where 6 is due, -DBEHIND_LIST makes
+   ckpt_resend write the byte after the last entry, and -DEARLY_COUNT the area's first word though the area is too short. Compiled
+   without a sanitizer, as the archive is. */
 #include <string.h>
 
 #include <ckpt.h>
 
 uint32_t __real_ckpt_line(const uint8_t *table, size_t table_len, uint8_t *area, size_t area_len, uint32_t number);
 uint32_t __real_ckpt_send(uint8_t *table, size_t table_len, uint8_t *area, size_t area_len, uint32_t p, uint32_t q);
+uint32_t __real_ckpt_resend(const uint8_t *table, size_t table_len, const uint8_t *positions, size_t positions_len, uint8_t *area,
+                            size_t area_len);
 
 static inline void reads(const uint8_t *byte) {
     (void)*(const volatile uint8_t *)byte;
@@ -71,6 +74,24 @@ uint32_t __wrap_ckpt_send(uint8_t *table, size_t table_len, uint8_t *area, size_
     uint32_t returned = __real_ckpt_send(table, table_len, area, area_len, p, q);
 #ifdef WRONG_NUMBER
     if (returned == 6) return 5;
+#endif
+    return returned;
+}
+
+uint32_t __wrap_ckpt_resend(const uint8_t *table, size_t table_len, const uint8_t *positions, size_t positions_len, uint8_t *area,
+                            size_t area_len) {
+    lent("table of resend", table, table_len);
+    lent("area of resend", area, area_len);
+    lent("positions", positions, positions_len);
+    uint32_t returned = __real_ckpt_resend(table, table_len, positions, positions_len, area, area_len);
+#ifdef BEHIND_LIST
+    if (returned == CKPT_OK) {
+        size_t list = CKPT_RESEND_LENGTH(ckpt_word(area, 0));
+        if (list < area_len) area[list] ^= 1;
+    }
+#endif
+#ifdef EARLY_COUNT
+    if (returned == CKPT_AREA_TOO_SHORT && area_len >= 4) area[3] ^= 1;
 #endif
     return returned;
 }

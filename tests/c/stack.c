@@ -10,6 +10,8 @@ enum { PAINT = 0xA5, SMALL_N = 3, SMALL_E = 6 };
 
 static uint8_t table[CKPT_TABLE_LENGTH(CKPT_MAX_PROCESSES, CKPT_MAX_RECORDS)];
 static uint8_t area[CKPT_FAILED_LENGTH(CKPT_MAX_PROCESSES)];
+/* Process 0 at its send, the others at 0. */
+static const uint8_t positions[4 * CKPT_MAX_PROCESSES] = {0, 0, 0, 2};
 static uint32_t n, e, returned;
 static uint8_t stack[1 << 16] __attribute__((aligned(16)));
 
@@ -21,8 +23,9 @@ static void send(void) { returned = ckpt_send(TABLE, area, CKPT_SEND_LENGTH, 0, 
 static void receipt(void) { returned = ckpt_receipt(TABLE, area, CKPT_RECEIPT_LENGTH, 1, 0, 1); }
 static void line(void) { returned = ckpt_line(TABLE, area, CKPT_LINE_LENGTH(n), 1); }
 static void failed(void) { returned = ckpt_failed(TABLE, area, CKPT_FAILED_LENGTH(n), 1); }
+static void resend(void) { returned = ckpt_resend(TABLE, positions, 4 * n, area, CKPT_RESEND_LENGTH(1)); }
 
-/* The calls in an order in which each is accepted. The failure line takes process 1 back too. */
+/* The calls in an order in which each is accepted. The failure line takes process 1 back too, and resend lists the one message. */
 static const struct {
     const char *name;
     void (*call)(void);
@@ -30,6 +33,7 @@ static const struct {
 } calls[] = {
     {"ckpt_fresh", fresh, 511},   {"ckpt_checkpoint", checkpoint, 511}, {"ckpt_send", send, 511},
     {"ckpt_receipt", receipt, 511}, {"ckpt_line", line, 511},             {"ckpt_failed", failed, 17 * 1024},
+    {"ckpt_resend", resend, 4095},
 };
 enum { CALLS = sizeof calls / sizeof calls[0] };
 

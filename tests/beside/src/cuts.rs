@@ -1,28 +1,8 @@
-//! Cuts and failure lines by document 01's words, read from a table's bytes.
+//! Failure lines by document 01's words, read from a table's bytes.
+use cases::cut::{self, has_orphan, tuples};
 use cases::records;
 use cases::table::{is_checkpoint, is_send, Record, A, B, KIND, RECEIPT};
 use std::fmt;
-
-/// A receipt inside the cut whose sender's part of the cut has no such send to this receiver.
-pub fn has_orphan(sections: &[Vec<Record>], cut: &[u32]) -> bool {
-    let part = |p: usize| &sections[p][..cut[p] as usize];
-    let sent = |q: usize, p: usize, k: u32| part(q).iter().any(|r| is_send(r, p as u32, k));
-    let orphan = |p: usize, r: &Record| r[KIND] == RECEIPT && !sent(r[A] as usize, p, r[B]);
-    (0..sections.len()).any(|p| part(p).iter().any(|r| orphan(p, r)))
-}
-
-/// All tuples with an element from 0 to its top at each place.
-pub fn tuples(tops: &[u32]) -> impl Iterator<Item = Vec<u32>> + '_ {
-    let all: u32 = tops.iter().map(|top| top + 1).product();
-    (0..all).map(|mut number| {
-        let digit = |&top: &u32| {
-            let digit = number % (top + 1);
-            number /= top + 1;
-            digit
-        };
-        tops.iter().map(digit).collect()
-    })
-}
 
 /// A receipt: its place and that of its send, counted from 1, and the sender.
 struct Received {
@@ -57,7 +37,7 @@ impl History {
     }
 
     pub fn counts(&self) -> Vec<u32> {
-        self.sections.iter().map(|s| s.len() as u32).collect()
+        cut::counts(&self.sections)
     }
 
     /// "A failed process may be at 0 or a checkpoint; another may also be at c."

@@ -2,8 +2,11 @@
 //! well laid tables that no run makes, damaged bytes, wrong lengths and extreme numbers.
 use crate::{Engine, Origin, Pair};
 use cases::calls::{numbers, CALLS};
+use cases::cut::{self, in_transit, listed};
 use cases::table::WIDTH;
-use cases::{area_length, damage, messages, remember, step_or_line, table_length, well_laid, Call, Rng};
+use cases::{
+    area_length, damage, messages, records, remember, step_or_line, table_length, well_laid, Call, Rng,
+};
 use std::collections::{BTreeMap, BTreeSet};
 use std::fmt;
 
@@ -74,6 +77,22 @@ impl Case<'_> {
         returned
     }
 
+    /// Resend on a well laid table, mostly at a cut and with an area that is long enough.
+    fn resend(&mut self) -> u32 {
+        let sections = records(self.pair.table());
+        let cut = cut::draw(&mut self.rng, &cut::counts(&sections));
+        let needed = 4 * listed(&in_transit(&sections, &cut)).len();
+        let length = cut::area_length(&mut self.rng, needed);
+        self.resend_on(&cut, length)
+    }
+
+    /// Resend with an area of this length and positions that are mostly these.
+    fn resend_on(&mut self, cut: &[u32], length: usize) -> u32 {
+        let positions = cut::positions(&mut self.rng, cut, self.n, self.e);
+        let area = self.rng.bytes(length);
+        self.call_on(Call::Resend, &[&area, &positions])
+    }
+
     /// Fresh, now and then with other dimensions than the table's.
     fn fresh(&mut self) -> u32 {
         let (n, e) = (self.n, self.e);
@@ -85,9 +104,12 @@ impl Case<'_> {
         self.call(call)
     }
 
-    /// Steps and lines on the table as it is, whose messages are known.
+    /// Steps, lines and resends on the table as it is, whose messages are known.
     pub fn steps(&mut self, count: u32, mut known: Vec<Call>) {
         for _ in 0..count {
+            if self.rng.one_in(12) {
+                self.resend();
+            }
             let call = step_or_line(&mut self.rng, self.n, self.e, &known);
             if self.call(call) == 0 {
                 remember(&mut self.rng, &mut known, call, self.pair.table());
@@ -115,11 +137,14 @@ impl Case<'_> {
         let (n, e, rng) = (self.n, self.e, &mut self.rng);
         let (p, q, k) = (rng.around(n, n, e), rng.around(n, n, e), rng.around(e + 1, n, e));
         let (number, mask) = (rng.around(n * e + 2, n, e), rng.mask(n));
+        let cut: Vec<u32> = (0..n).map(|_| rng.below(3)).collect();
+        let length = rng.pick(&[0, 4, 100]);
         self.call(Call::Checkpoint { p });
         self.call(Call::Send { p, q });
         self.call(Call::Receipt { p, q, k });
         self.call(Call::Line { number });
         self.call(Call::Failed { mask });
+        self.resend_on(&cut, length);
         self.fresh();
     }
 }

@@ -100,6 +100,7 @@ pub fn on_proved(call: Call, lent: &mut [&mut [u8]]) -> u32 {
         (Call::Receipt { p, q, k }, [table, area]) => ckpt::receipt(table, area, p, q, k),
         (Call::Line { number }, [table, area]) => ckpt::line(table, area, number),
         (Call::Failed { mask }, [table, area]) => ckpt::failed(table, area, mask),
+        (Call::Resend, [table, area, positions]) => ckpt::resend(table, positions, area),
         (_, lent) => panic!("{call:?} with {} lent areas", lent.len()),
     }
 }
@@ -147,9 +148,10 @@ impl Pair {
         self.proved[0].content()
     }
 
-    /// The call with an answer area of these bytes, if it has one. Answers the number returned and the area.
+    /// The call with an answer area of these bytes, if it has one, and of no bytes where it is lent more. Answers the
+    /// number returned and the area.
     pub fn call(&mut self, call: Call, area: &[u8]) -> (u32, Vec<u8>) {
-        let returned = self.call_on(call, call.areas(&[area]));
+        let returned = self.call_on(call, call.areas(&[area, &[]]));
         (returned, self.areas().next().unwrap_or_default().to_vec())
     }
 
@@ -196,6 +198,12 @@ impl Pair {
         let n = u32::from_be_bytes(self.table()[..4].try_into().unwrap());
         let (returned, area) = self.call(call, &vec![0xEE; call.area_length(n)]);
         (returned, if returned == 0 { cases::to_words(&area) } else { Vec::new() })
+    }
+
+    /// Resend at these positions with an area of these bytes. Answers the number returned and the area.
+    pub fn resend(&mut self, positions: &[u32], area: &[u8]) -> (u32, Vec<u8>) {
+        let returned = self.call_on(Call::Resend, &[area, &from_words(positions)]);
+        (returned, self.areas().next().unwrap_or_default().to_vec())
     }
 
     fn failure(&self, what: &str, call: Call, areas: &[&[u8]], returned: u32, expected: u32) -> String {

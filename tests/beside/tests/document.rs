@@ -5,7 +5,7 @@ use cases::chosen::{count_into_next_section, full, one_free_at};
 use cases::table::{
     changed, checkpoint, forced, record, section, words_of_records, A, B, COUNT, KIND, NUMBER, SENDS, WIDTH,
 };
-use cases::Call::{self, Checkpoint, Failed, Fresh, Line, Receipt, Send};
+use cases::Call::{self, Checkpoint, Failed, Fresh, Line, Receipt, Resend, Send};
 use cases::{from_records, from_words, records, table_length, to_words};
 
 const ORIGIN: Origin = Origin { test: "document 01", seed: 0, case: 0 };
@@ -142,6 +142,7 @@ const CALLS: &[Call] = &[
     Receipt { p: 0, q: 1, k: 1 },
     Line { number: 0 },
     Failed { mask: 0 },
+    Resend,
 ];
 
 #[test]
@@ -185,6 +186,7 @@ fn empty_slices_without_bytes_behind_them() {
     assert_eq!(ckpt::receipt(&mut [], &mut [], 0, 1, 1), 2);
     assert_eq!(ckpt::line(&[], &mut [], 0), 2);
     assert_eq!(ckpt::failed(&[], &mut [], 0), 2);
+    assert_eq!(ckpt::resend(&[], &[], &mut []), 2);
     let mut table = worked_controller().table().to_vec();
     let before = table.clone();
     assert_eq!(ckpt::checkpoint(&mut table, &mut [], 0), 4);
@@ -192,6 +194,8 @@ fn empty_slices_without_bytes_behind_them() {
     assert_eq!(ckpt::receipt(&mut table, &mut [], 0, 1, 1), 4);
     assert_eq!(ckpt::line(&table, &mut [], 0), 4);
     assert_eq!(ckpt::failed(&table, &mut [], 0), 4);
+    assert_eq!(ckpt::resend(&table, &[], &mut []), 12);
+    assert_eq!(ckpt::resend(&table, &[0; 12], &mut []), 13);
     assert_eq!(table, before);
 }
 
@@ -269,6 +273,10 @@ fn the_first_row_met_is_returned() {
         for area in (0..=24).filter(|&area| area != call.area_length(3)) {
             check(&full, call, area, 4);
         }
+    }
+    // Without positions and an area: tests/resend.rs has the rows that come after.
+    for (table, returned) in bad_tables() {
+        check(&table, Resend, 0, returned);
     }
 
     for p in [3, 4, 16, 1 << 31, MAX] {

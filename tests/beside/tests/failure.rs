@@ -1,7 +1,8 @@
 //! Failure lines. Each is asked for beside the reference engine and compared with `History::lowered`, those of small
 //! tables also with all permitted cuts.
-use beside::cuts::{tuples, History};
+use beside::cuts::History;
 use beside::{on_proved, seed, Origin, Pair};
+use cases::cut::tuples;
 use cases::table::{checkpoint, forced, receipt, send, Record, A, B, KIND, RECEIPT, SEND};
 use cases::Call::{self, Failed, Fresh};
 use cases::{from_records, records, remember, step, table_length, well_laid, Rng};

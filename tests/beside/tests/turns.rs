@@ -1,7 +1,7 @@
 //! Document 01, "Lists of calls": two lists leave the same table exactly when each process has the same accepted calls,
 //! and the numbered lines after a list have no orphan.
-use beside::cuts::has_orphan;
 use beside::{seed, Origin, Pair};
+use cases::cut::{counts, has_orphan};
 use cases::table::{FORCED, KIND};
 use cases::{area_length, records, remember, step, Call, Rng};
 
@@ -198,7 +198,7 @@ fn numbered_lines_after_a_list_have_no_orphan() {
             lines += 1;
         }
         // The search does find orphans where there are some: every process at its count but one at 0.
-        let mut cut: Vec<u32> = sections.iter().map(|s| s.len() as u32).collect();
+        let mut cut = counts(&sections);
         cut[rng.below(n) as usize] = 0;
         spoiled += u64::from(has_orphan(&sections, &cut));
     }

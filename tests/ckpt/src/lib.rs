@@ -41,6 +41,14 @@ mod c {
             area_len: usize,
             mask: u32,
         ) -> u32;
+        pub fn ckpt_resend(
+            table: *const u8,
+            table_len: usize,
+            positions: *const u8,
+            positions_len: usize,
+            area: *mut u8,
+            area_len: usize,
+        ) -> u32;
     }
 }
 
@@ -69,4 +77,9 @@ pub fn line(table: &[u8], area: &mut [u8], number: u32) -> u32 {
 
 pub fn failed(table: &[u8], area: &mut [u8], mask: u32) -> u32 {
     unsafe { c::ckpt_failed(table.as_ptr(), table.len(), area.as_mut_ptr(), area.len(), mask) }
+}
+
+pub fn resend(table: &[u8], positions: &[u8], area: &mut [u8]) -> u32 {
+    let (own, cut) = (table.as_ptr(), positions.as_ptr());
+    unsafe { c::ckpt_resend(own, table.len(), cut, positions.len(), area.as_mut_ptr(), area.len()) }
 }
