@@ -1,7 +1,7 @@
 /* bench [--short]: times each call of the archive beside the same call in plain C (peer.c) and prints, as Markdown, how long both
    take, how long the product takes compared with one pass over the table's bytes, and how its time grows with the table. The two
-   take turns on fresh copies of the same tables, and each turn must leave the same numbers, tables and areas. --short makes few
-   rounds.
+   take turns on fresh copies of the same tables, and each turn must leave the same numbers, tables, positions and areas. --short
+   makes few rounds.
 
    Status 1 where the two differ, where a call on the largest table takes more than BOUND times the peer's time, or where a call
    other than a failure line takes more than BOUND times as long for a record place at E = 1,024 as at E = 256. */
@@ -20,6 +20,7 @@
     X(receipt, TABLE, AREA_OF(CKPT_RECEIPT_LENGTH), MESSAGE.to, MESSAGE.from, MESSAGE.send) \
     X(line, TABLE, AREA_OF(CKPT_LINE_LENGTH(t->n)), MESSAGE.send)                           \
     X(failed, TABLE, AREA_OF(CKPT_FAILED_LENGTH(t->n)), MASK)                               \
+    X(resend, TABLE, POSITIONS, AREA_OF(t->list))                                           \
     X(fresh, TABLE, t->n, t->e)
 
 /* The same call in plain C has the same parameters. */
@@ -33,7 +34,10 @@ enum call { EACH_CALL(NUMBERED) CALLS };
 /* Process 0 fails. */
 #define MASK 1u
 #define LONGEST CKPT_TABLE_LENGTH(CKPT_MAX_PROCESSES, CKPT_MAX_RECORDS)
+#define CUT CKPT_LINE_LENGTH(CKPT_MAX_PROCESSES)
+/* The longest area, without and with that of the messages to send again. */
 #define AREA CKPT_FAILED_LENGTH(CKPT_MAX_PROCESSES)
+#define LONGEST_AREA CKPT_RESEND_MOST(CKPT_MAX_PROCESSES, CKPT_MAX_RECORDS)
 #define MOST_RUNS 7
 #define MOST_ROUNDS 21
 #define MOST_TURNS 320
@@ -47,7 +51,7 @@ enum call { EACH_CALL(NUMBERED) CALLS };
 
 /* In a round each side has as many turns as meet so many record places, 20 on the largest table. */
 #define PLACES_OF_A_ROUND (20 * 16 * 1024)
-#define FALL_TURNS 5
+#define FEW_TURNS 5
 #define FALL_ROUNDS 341
 
 /* All tables begin a page, so that none is slower by where it lies. */
@@ -59,20 +63,25 @@ struct message {
     uint32_t to, from, send;
 };
 
-/* Tables to be called on, side by side, each of `length` bytes with a message for it. */
+/* Tables to be called on, side by side, each of `length` bytes with a message and a cut for it. The messages to send again get an area
+   of `list` bytes, which is the length for any list, unless a row says otherwise. */
 struct tables {
     uint8_t bytes[LONGEST];
     struct message messages[SMALL_TABLES];
-    size_t length;
+    uint8_t cuts[SMALL_TABLES][CUT];
+    size_t length, list;
     uint32_t n, e;
     int count, turns;
 } PAGE_ALIGNED;
 
-/* What one side gets for a turn: copies of the tables, an area for each, and what the calls return. */
+/* What one side gets for a turn: copies of the tables and cuts, an area for each, `area` bytes from one to the next, and what the
+   calls return. */
 struct lent {
     uint8_t tables[LONGEST];
-    uint8_t areas[SMALL_TABLES][AREA];
+    uint8_t areas[LONGEST_AREA];
+    uint8_t cuts[SMALL_TABLES][CUT];
     uint32_t returned[SMALL_TABLES];
+    size_t area;
 } PAGE_ALIGNED;
 
 static struct lent product_lent, peer_lent;
@@ -81,13 +90,13 @@ static struct lent product_lent, peer_lent;
 struct row {
     const struct tables *tables;
     enum call call;
-    bool fall;
+    const char *of; /* a row of its own: what is special about it */
     double product[MOST_RUNS], peer[MOST_RUNS], ratio[MOST_RUNS], passes[MOST_RUNS];
 };
 
-enum { SIZES = 3, FALL_ROW = SIZES * CALLS, ROWS };
+enum { SIZES = 3, FALL_ROW = SIZES * CALLS, TRANSIT_ROW, EXACT_ROW, ROWS };
 static const uint32_t sizes[SIZES][2] = {{3, 6}, {8, 256}, {16, 1024}};
-static struct tables drawn_tables[SIZES], fall;
+static struct tables drawn_tables[SIZES], fall, transit, exact;
 static struct row rows[ROWS];
 
 /* The series of the growth: n is 16, and each E is twice the one before. */
@@ -123,16 +132,17 @@ static void begin_tables(struct tables *tables, uint32_t n, uint32_t e) {
     tables->n = n;
     tables->e = e;
     tables->length = CKPT_TABLE_LENGTH(n, e);
+    tables->list = CKPT_RESEND_MOST(n, e);
     tables->count = tables->length <= SMALL ? SMALL_TABLES : 1;
     tables->turns = PLACES_OF_A_ROUND / (int)(n * e) / tables->count;
     if (tables->turns > MOST_TURNS) end_badly("a round has too many turns");
 }
 
-/* A table that is drawn, and the messages that were sent and not yet received. */
+/* A table that is drawn, how many of a hundred calls on it are to be sends, and the messages that were sent and not yet received. */
 static struct {
     uint8_t *bytes;
     size_t length;
-    uint32_t n, e;
+    uint32_t n, e, sends;
     struct message waiting[CKPT_MAX_PROCESSES * CKPT_MAX_RECORDS];
     size_t waiting_count;
 } draft;
@@ -169,7 +179,7 @@ static uint32_t draw_receipt(void) {
 static uint32_t draw_call(void) {
     uint32_t p = drawn(draft.n), share = drawn(100);
     if (share < 10) return draw_checkpoint(p);
-    return share < 55 ? draw_send(p) : draw_receipt();
+    return share < 10 + draft.sends ? draw_send(p) : draw_receipt();
 }
 
 static bool later(struct message a, struct message b) {
@@ -190,27 +200,57 @@ static struct message last_message(void) {
     return last;
 }
 
-/* Draws table i until a message can be received in it: calls make it, until half its records are used. */
-static void draw_table(struct tables *tables, int i) {
+/* Draws table i until a message can be received in it: calls make it, until so many of its records are used. */
+static void draw_table(struct tables *tables, int i, uint32_t used_records, uint32_t sends) {
     uint32_t places = tables->n * tables->e;
     for (uint32_t tries = 0; tables->messages[i].send == 0;) {
+        draft.sends = sends;
         draft.bytes = tables->bytes + (size_t)i * tables->length;
         draft.length = tables->length;
         draft.n = tables->n;
         draft.e = tables->e;
         draft.waiting_count = 0;
         if (peer_fresh(draft.bytes, draft.length, draft.n, draft.e) != CKPT_OK) end_badly("no fresh table");
-        for (uint32_t used = 0; used < places / 2; used += draw_call()) {
+        for (uint32_t used = 0; used < used_records; used += draw_call()) {
             if (++tries > 100 * places) end_badly("a table cannot be drawn");
         }
         tables->messages[i] = last_message();
     }
 }
 
-static void half_full(struct tables *tables, uint32_t n, uint32_t e) {
+/* A cut of table i, each of its positions drawn for itself. */
+static void draw_cut(struct tables *tables, int i) {
+    for (uint32_t p = 0; p < tables->n; p++) {
+        uint32_t count = ckpt_word(tables->bytes + (size_t)i * tables->length, section_at(tables->e, p) + HEADING_COUNT);
+        put_word(tables->cuts[i], p, drawn(count + 1));
+    }
+}
+
+static void draw_tables(struct tables *tables, uint32_t n, uint32_t e, uint32_t used_records, uint32_t sends) {
     begin_tables(tables, n, e);
     draws = 88172645463325252u;
-    for (int i = 0; i < tables->count; i++) draw_table(tables, i);
+    for (int i = 0; i < tables->count; i++) draw_table(tables, i, used_records, sends);
+    for (int i = 0; i < tables->count; i++) draw_cut(tables, i);
+}
+
+static void half_full(struct tables *tables, uint32_t n, uint32_t e) {
+    draw_tables(tables, n, e, n * e / 2, 45);
+}
+
+/* ---- messages in transit ---- */
+
+static uint32_t in_transit;
+
+/* A fuller table, from more sends, and a cut with thousands of messages in transit; once more with the exact area for these. */
+static void crowded(void) {
+    static uint8_t area[LONGEST_AREA];
+    draw_tables(&transit, CKPT_MAX_PROCESSES, CKPT_MAX_RECORDS, CKPT_MAX_PROCESSES * CKPT_MAX_RECORDS / 8 * 7, 70);
+    transit.turns = FEW_TURNS;
+    if (peer_resend(transit.bytes, transit.length, transit.cuts[0], CUT, area, sizeof area) != CKPT_OK) end_badly("no list");
+    in_transit = ckpt_word(area, 0);
+    if (in_transit < 2000) end_badly("not thousands of messages are in transit");
+    exact = transit;
+    exact.list = CKPT_RESEND_LENGTH(in_transit);
 }
 
 /* ---- the fall ---- */
@@ -242,7 +282,7 @@ static void add_record(struct tables *table, uint32_t p, uint32_t kind, uint32_t
    at their first checkpoints, at position 1. */
 static void falling(struct tables *table) {
     begin_tables(table, CKPT_MAX_PROCESSES, CKPT_MAX_RECORDS);
-    table->turns = FALL_TURNS;
+    table->turns = FEW_TURNS;
     if (peer_fresh(table->bytes, table->length, table->n, table->e) != CKPT_OK) end_badly("no fresh table");
     for (uint32_t p = 0; p < 2; p++) {
         uint32_t groups = table->e / 3;
@@ -315,16 +355,19 @@ static uint64_t now(void) {
     return (uint64_t)time.tv_sec * 1000000000u + (uint64_t)time.tv_nsec;
 }
 
-static void lend(struct lent *lent, const struct tables *tables) {
+static void lend(struct lent *lent, const struct tables *tables, enum call call) {
+    lent->area = call == CALL_resend ? tables->list : AREA;
     memcpy(lent->tables, tables->bytes, (size_t)tables->count * tables->length);
-    memset(lent->areas, 0xA5, (size_t)tables->count * AREA);
+    memcpy(lent->cuts, tables->cuts, sizeof lent->cuts);
+    memset(lent->areas, 0xA5, (size_t)tables->count * lent->area);
 }
 
 /* A side's call on each table, one after the other. */
 typedef void on_each(const struct tables *t, struct lent *lent);
 
 #define TABLE lent->tables + (size_t)i * t->length, t->length
-#define AREA_OF(LENGTH) lent->areas[i], LENGTH
+#define POSITIONS lent->cuts[i], CKPT_LINE_LENGTH(t->n)
+#define AREA_OF(LENGTH) lent->areas + (size_t)i * lent->area, LENGTH
 #define MESSAGE t->messages[i]
 #define ON_EACH(SIDE, NAME, ...)                                                            \
     static void SIDE##_##NAME##_on_each(const struct tables *t, struct lent *lent) {        \
@@ -340,16 +383,17 @@ static const struct {
 } calls[CALLS] = {EACH_CALL(ROW)};
 
 /* A turn of one side, on fresh copies: nanoseconds for a call. */
-static double turn(on_each *call, const struct tables *tables, struct lent *lent) {
-    lend(lent, tables);
+static double turn(enum call call, const struct tables *tables, struct lent *lent) {
+    on_each *on_side = lent == &product_lent ? calls[call].product : calls[call].peer;
+    lend(lent, tables, call);
     uint64_t start = now();
-    call(tables, lent);
+    on_side(tables, lent);
     return (double)(now() - start) / tables->count;
 }
 
 /* Begins a message. */
 static void say_row(const struct row *row) {
-    fprintf(stderr, "bench: %s%s at n = %u, E = %u", calls[row->call].name, row->fall ? " in the fall" : "", row->tables->n,
+    fprintf(stderr, "bench: %s%s at n = %u, E = %u", calls[row->call].name, row->of ? row->of : "", row->tables->n,
             row->tables->e);
 }
 
@@ -390,7 +434,8 @@ static void same_turns(const struct row *row) {
     size_t count = (size_t)row->tables->count;
     compare_numbers(row);
     compare_bytes(row, "the table", product_lent.tables, peer_lent.tables, count * row->tables->length);
-    compare_bytes(row, "the area", product_lent.areas[0], peer_lent.areas[0], count * AREA);
+    compare_bytes(row, "the positions", product_lent.cuts[0], peer_lent.cuts[0], sizeof product_lent.cuts);
+    compare_bytes(row, "the area", product_lent.areas, peer_lent.areas, count * product_lent.area);
     accepted(row->tables, &product_lent);
 }
 
@@ -435,9 +480,9 @@ static void measure_round(const struct row *row, double *of_product, double *of_
     const struct tables *tables = row->tables;
     double product_turns[MOST_TURNS], peer_turns[MOST_TURNS];
     for (int i = 0; i < tables->turns; i++) {
-        if (i % 2 == 0) product_turns[i] = turn(calls[row->call].product, tables, &product_lent);
-        peer_turns[i] = turn(calls[row->call].peer, tables, &peer_lent);
-        if (i % 2 == 1) product_turns[i] = turn(calls[row->call].product, tables, &product_lent);
+        if (i % 2 == 0) product_turns[i] = turn(row->call, tables, &product_lent);
+        peer_turns[i] = turn(row->call, tables, &peer_lent);
+        if (i % 2 == 1) product_turns[i] = turn(row->call, tables, &product_lent);
         same_turns(row);
     }
     *of_product = median(product_turns, tables->turns);
@@ -461,7 +506,7 @@ static void measure(struct row *row, int run) {
 static double place_time(const struct tables *tables, enum call call) {
     double turns[MOST_TURNS];
     for (int i = 0; i < tables->turns; i++) {
-        turns[i] = turn(calls[call].product, tables, &product_lent);
+        turns[i] = turn(call, tables, &product_lent);
         accepted(tables, &product_lent);
     }
     return median(turns, tables->turns) / (tables->n * tables->e);
@@ -510,17 +555,22 @@ static void print_all(void) {
     printf("- rounds: %d runs of %d, of which the medians are given; for ratios, of the runs' ratios\n", runs, rounds);
     puts("\n## Half full tables\n");
     printf("A pass is one over the table's bytes, adding them up as words of 64 bits. Times at n = %u, E = %u are of calls on %d tables, each\n"
-           "drawn for itself.\n\n",
+           "drawn for itself. Messages to send again are those of a cut whose positions are drawn.\n\n",
            sizes[0][0], sizes[0][1], SMALL_TABLES);
     print_rows(0, FALL_ROW);
     printf("\n## A failure line that falls %u rounds\n\n", fallen.rounds);
     printf("Process 0 fails. The rounds take it from position %u to %u, and process 1, which hangs on it, from %u to %u.\n\n",
            fallen.from[0], fallen.to[0], fallen.from[1], fallen.to[1]);
-    print_rows(FALL_ROW, ROWS);
+    print_rows(FALL_ROW, TRANSIT_ROW);
+    printf("\n## %u messages to send again\n\n", in_transit);
+    puts("A table that is seven eighths full, from more sends. The first row's area is long enough for any list, the second's just for\n"
+         "this one.\n");
+    print_rows(TRANSIT_ROW, ROWS);
     puts("\n## Growth\n");
     puts("Nanoseconds that the product takes for each of the n × E record places, n = 16, half full. They stay the same where a");
     puts("call's time is linear.\n");
     print_growth();
+    fflush(stdout); /* what is over a bound is said after it */
 }
 
 /* The rows at the largest size and the growth between E = 256 and E = 1,024 are held to the bound. */
@@ -556,9 +606,10 @@ static void make_tables(void) {
     }
     for (int i = 0; i < SERIES; i++) half_full(&grown[i], CKPT_MAX_PROCESSES, series[i]);
     falling(&fall);
-    rows[FALL_ROW].tables = &fall;
-    rows[FALL_ROW].call = CALL_failed;
-    rows[FALL_ROW].fall = true;
+    crowded();
+    rows[FALL_ROW] = (struct row){.tables = &fall, .call = CALL_failed, .of = " in the fall"};
+    rows[TRANSIT_ROW] = (struct row){.tables = &transit, .call = CALL_resend, .of = " of thousands"};
+    rows[EXACT_ROW] = (struct row){.tables = &exact, .call = CALL_resend, .of = " into an exact area"};
 }
 
 int main(int argc, char **argv) {

@@ -1,10 +1,13 @@
-/* Engines that the bench must refuse (tests/bench.sh --faults): ckpt_send and ckpt_failed of the archive, wrapped by the linker.
-   -DCHECKS=N makes ckpt_send check the table N times more, -DAFTER=.. is what it does last, -DREPEATS=N makes ckpt_failed look for
-   its line N times more. Without these they do what the archive's do. */
+/* Engines that the bench must refuse (tests/bench.sh --faults): ckpt_send, ckpt_failed and ckpt_resend of the archive, wrapped by the
+   linker. -DCHECKS=N makes ckpt_send check the table N times more, and -DAFTER=.. is what it does last. -DREPEATS=N makes ckpt_failed
+   look for its line N times more, -DLISTS=N makes ckpt_resend list the messages N times more, and -DLISTED=.. is what that does last.
+   Without these they do what the archive's do. */
 #include "../include/ckpt.h"
 
 uint32_t __real_ckpt_send(uint8_t *table, size_t table_len, uint8_t *area, size_t area_len, uint32_t p, uint32_t q);
 uint32_t __real_ckpt_failed(const uint8_t *table, size_t table_len, uint8_t *area, size_t area_len, uint32_t mask);
+uint32_t __real_ckpt_resend(const uint8_t *table, size_t table_len, const uint8_t *positions, size_t positions_len, uint8_t *area,
+                            size_t area_len);
 
 #ifndef CHECKS
 #define CHECKS 0
@@ -14,6 +17,12 @@ uint32_t __real_ckpt_failed(const uint8_t *table, size_t table_len, uint8_t *are
 #endif
 #ifndef REPEATS
 #define REPEATS 0
+#endif
+#ifndef LISTS
+#define LISTS 0
+#endif
+#ifndef LISTED
+#define LISTED (void)0
 #endif
 
 uint32_t __wrap_ckpt_send(uint8_t *table, size_t table_len, uint8_t *area, size_t area_len, uint32_t p, uint32_t q) {
@@ -27,4 +36,12 @@ uint32_t __wrap_ckpt_send(uint8_t *table, size_t table_len, uint8_t *area, size_
 uint32_t __wrap_ckpt_failed(const uint8_t *table, size_t table_len, uint8_t *area, size_t area_len, uint32_t mask) {
     for (int left = REPEATS; left > 0; left--) __real_ckpt_failed(table, table_len, area, area_len, mask);
     return __real_ckpt_failed(table, table_len, area, area_len, mask);
+}
+
+uint32_t __wrap_ckpt_resend(const uint8_t *table, size_t table_len, const uint8_t *positions, size_t positions_len, uint8_t *area,
+                            size_t area_len) {
+    for (int left = LISTS; left > 0; left--) __real_ckpt_resend(table, table_len, positions, positions_len, area, area_len);
+    uint32_t returned = __real_ckpt_resend(table, table_len, positions, positions_len, area, area_len);
+    LISTED;
+    return returned;
 }

@@ -56,7 +56,7 @@ short() {
 refuses() {
     local name=$1 pattern=$2 status
     shift 2
-    bench_of "$program-fault" -Wl,--wrap=ckpt_send,--wrap=ckpt_failed "$@" bench/faults.c || return 1
+    bench_of "$program-fault" -Wl,--wrap=ckpt_send,--wrap=ckpt_failed,--wrap=ckpt_resend "$@" bench/faults.c || return 1
     "$program-fault" --short >"$out" 2>&1
     status=$?
     if [ "$status" -ne 1 ] || ! grep -qE "^bench: $pattern" "$out"; then
@@ -68,16 +68,25 @@ refuses() {
 }
 
 # The area's last byte, the table's last and the number returned are wrong in turn; then a step is slow, one is slower the larger
-# the table, and a failure line is slow enough to be seen in the fall alone.
+# the table, and a failure line is slow enough to be seen in the fall alone. Of the messages to send again the positions, a byte behind
+# the list and a long list are wrong in turn; then they are slow to list, and slow where the area is exact alone.
 faults() {
     local send='send at n = 3, E = 6: product and peer differ in' largest='at n = 16, E = 1024 takes [0-9.]+ times' last
+    local resend='resend at n = 3, E = 6: product and peer differ in'
+    local long='resend of thousands at n = 16, E = 1024: product and peer differ in'
     last=$(($(table_length 3 6) - 1))
     refuses "with a wrong area" "$send the area, first at byte 7$" -DAFTER='area[7] ^= 1' &&
         refuses "with a wrong table" "$send the table, first at byte $last$" -DAFTER='table[table_len - 1] ^= 1' &&
         refuses "with a wrong number" "$send the number returned: 5 and 0$" -DAFTER='returned = CKPT_BAD_PROCESS' &&
         refuses "with a slow send" "send $largest" -DCHECKS=4 &&
         refuses "that is not linear" "send takes [0-9.]+ times as long for a place" -DCHECKS='ckpt_word(table, 1) / 64' &&
-        refuses "with a slow fall" "failed in the fall $largest" -DREPEATS=5
+        refuses "with a slow fall" "failed in the fall $largest" -DREPEATS=5 &&
+        refuses "that changes positions" "$resend the positions, first at byte 3$" -DLISTED='((uint8_t *)positions)[3] ^= 1' &&
+        refuses "that writes behind a list" "$resend the area, first at byte 219$" -DLISTED='area[area_len - 1] = 0' &&
+        refuses "with a wrong long list" "$long the area, first at byte 15$" -DLISTED='area[15] ^= ckpt_word(area, 0) > 2000' &&
+        refuses "with a slow list" "resend $largest" -DLISTS='(int)ckpt_word(table, 1) / 50' &&
+        refuses "with a slow exact list" "resend into an exact area $largest" \
+            -DLISTS='ckpt_word(table, 1) == 1024 && area_len < CKPT_RESEND_MOST(16, 1024) ? 20 : 0'
 }
 
 archive_made || exit 2
