@@ -2,8 +2,8 @@
 
    Collectors read the meters of flats and report new pulses to the tariff process, which passes them on to the ledger that bills
    the flat. Messages overtake each other. Each process saves its state now and then, and when the table says so. When processes
-   fail, the failure line names the states to go on from: the host reloads them and sends again what was in transit. After every
-   restart it lets all pulses reach the ledgers and compares these with the meters' own registers.
+   fail, the failure line names the states to go on from: the host reloads them, asks which messages were in transit there and sends
+   these again. After every restart it lets all pulses reach the ledgers and compares these with the meters' own registers.
 
    host [SEED]                   a thousand random restarts; the last line is 'ledgers equal registers', and the status is 0
    host --ignore-lines [SEED]    the same, but each process reloads its own last save: flats are billed for pulses twice, and the
@@ -26,8 +26,7 @@ struct state {
 struct message {
     uint32_t from, to, number; /* the table knows it by its sender and send number */
     uint32_t flat, pulses;
-    uint32_t sent, received; /* its sender's and receiver's position after it; received is 0 while it is in transit */
-    bool owed;               /* sent again: the state that the table began from owes it */
+    bool received;
 };
 
 static uint32_t meter[FLATS]; /* the registers: meters never fail */
@@ -38,8 +37,9 @@ static uint8_t table[CKPT_TABLE_LENGTH(N, E)];
 static struct state saved[N][E + 1]; /* by the position at which it was saved, 0 for the state that the table began from */
 static uint32_t position[N];         /* how many records a process has */
 static uint32_t last_save[N];        /* the position of its last save */
-static struct message sent[N * E];
-static size_t messages;
+static struct message sent[N][E + 1]; /* by sender and send number */
+static uint32_t sends[N];
+static uint32_t owed[N]; /* how many a process sent again when the table began: its first records are these sends */
 
 static bool ignore_lines;
 static struct { unsigned long saves, forced, received, overtaking, again, back, full; } seen;
@@ -68,37 +68,43 @@ static void save(uint32_t p) {
 /* A fresh table that begins from the running states. */
 static void begin(void) {
     must(ckpt_fresh(table, sizeof table, N, E));
-    messages = 0;
     for (uint32_t p = 0; p < N; p++) {
-        position[p] = 0;
+        position[p] = sends[p] = 0;
         save(p);
     }
 }
 
-static bool post(uint32_t from, uint32_t to, uint32_t flat, uint32_t pulses, bool owed);
+static void put_word(uint8_t *area, size_t i, uint32_t word) {
+    for (size_t byte = 4 * i + 4; byte-- > 4 * i; word >>= 8) area[byte] = (uint8_t)word;
+}
+
+static bool post(uint32_t from, uint32_t to, uint32_t flat, uint32_t pulses);
 
 /* Goes on from the failure line of the mask: with its states, on a fresh table, and with what was in transit sent again. The line
-   of mask 0 has all running states, so nobody goes back. */
+   of mask 0 has all running states, so nobody goes back.
+
+   A process may go back to the state that the table began from. Its position is 0, before the sends of what was sent again, and yet
+   this state had sent these messages already: it owes them still. The engine can't know that and would take them for unsent. So it
+   is asked with the position right behind these sends, which has no other record before it. */
 static void restart(uint32_t failed) {
+    static uint8_t list[CKPT_RESEND_MOST(N, E)];
     static struct message again[N * E];
-    uint8_t area[CKPT_FAILED_LENGTH(N)];
-    uint32_t line[N];
-    size_t count = 0;
+    uint8_t area[CKPT_FAILED_LENGTH(N)], cut[CKPT_LINE_LENGTH(N)];
 
     must(ckpt_failed(table, sizeof table, area, sizeof area, failed));
     seen.back += ckpt_word(area, N + 1);
     for (uint32_t p = 0; p < N; p++) {
-        line[p] = failed && ignore_lines ? last_save[p] : ckpt_word(area, p);
-        if (failed >> p & 1 || line[p] < position[p]) running[p] = saved[p][line[p]];
+        uint32_t at = failed && ignore_lines ? last_save[p] : ckpt_word(area, p);
+        if (failed >> p & 1 || at < position[p]) running[p] = saved[p][at];
+        put_word(cut, p, at < owed[p] ? owed[p] : at);
     }
-    for (const struct message *m = sent; m < sent + messages; m++) {
-        bool was_sent = m->owed || m->sent <= line[m->from];
-        bool was_received = m->received && m->received <= line[m->to];
-        if (was_sent && !was_received) again[count++] = *m;
-    }
+    must(ckpt_resend(table, sizeof table, cut, sizeof cut, list, sizeof list));
+    size_t count = ckpt_word(list, 0);
+    for (size_t i = 0; i < count; i++) again[i] = sent[ckpt_word(list, 3 * i + 1)][ckpt_word(list, 3 * i + 2)];
     begin();
     /* There is room for them: each sender had them in its last table. */
-    for (const struct message *m = again; m < again + count; m++) post(m->from, m->to, m->flat, m->pulses, true);
+    for (const struct message *m = again; m < again + count; m++) post(m->from, m->to, m->flat, m->pulses);
+    memcpy(owed, sends, sizeof owed);
     seen.again += count;
 }
 
@@ -122,11 +128,12 @@ static void checkpoint(uint32_t p) {
     seen.saves++;
 }
 
-static bool post(uint32_t from, uint32_t to, uint32_t flat, uint32_t pulses, bool owed) {
+static bool post(uint32_t from, uint32_t to, uint32_t flat, uint32_t pulses) {
     uint8_t area[CKPT_SEND_LENGTH];
     if (!accepted(ckpt_send(table, sizeof table, area, sizeof area, from, to))) return false;
     position[from]++;
-    sent[messages++] = (struct message){from, to, ckpt_word(area, 0), flat, pulses, position[from], 0, owed};
+    sends[from] = ckpt_word(area, 0);
+    sent[from][sends[from]] = (struct message){from, to, sends[from], flat, pulses, false};
     return true;
 }
 
@@ -138,11 +145,12 @@ static void receive(struct message *m) {
         save(m->to);
         seen.forced++;
     }
-    m->received = ++position[m->to];
+    position[m->to]++;
+    m->received = true;
     running[m->to].pulses[m->flat] += m->pulses;
     seen.received++;
-    for (const struct message *o = sent; o < m; o++) {
-        if (!o->received && o->from == m->from && o->to == m->to) {
+    for (const struct message *o = sent[m->from] + 1; o < m; o++) {
+        if (!o->received && o->to == m->to) {
             seen.overtaking++;
             break;
         }
@@ -153,8 +161,10 @@ static void receive(struct message *m) {
 static struct message *in_transit(void) {
     struct message *found = NULL;
     uint32_t waiting = 0;
-    for (struct message *m = sent; m < sent + messages; m++) {
-        if (!m->received && below(++waiting) == 0) found = m;
+    for (uint32_t p = 0; p < N; p++) {
+        for (struct message *m = sent[p] + 1; m <= sent[p] + sends[p]; m++) {
+            if (!m->received && below(++waiting) == 0) found = m;
+        }
     }
     return found;
 }
@@ -162,12 +172,12 @@ static struct message *in_transit(void) {
 static void report(uint32_t flat) {
     uint32_t *reported = &running[collector_of(flat)].pulses[flat];
     uint32_t now = meter[flat];
-    if (now != *reported && post(collector_of(flat), TARIFF, flat, now - *reported, false)) *reported = now;
+    if (now != *reported && post(collector_of(flat), TARIFF, flat, now - *reported)) *reported = now;
 }
 
 static void pass_on(uint32_t flat) {
     uint32_t *held = &running[TARIFF].pulses[flat];
-    if (*held && post(TARIFF, ledger_of(flat), flat, *held, false)) *held = 0;
+    if (*held && post(TARIFF, ledger_of(flat), flat, *held)) *held = 0;
 }
 
 /* A meter counts, and one process does something. */

@@ -1,4 +1,5 @@
-/* The checkpoint table of a block controller and its restart lines (document 01), over lent bytes.
+/* The checkpoint table of a block controller, its restart lines (document 01) and the messages to send again after a restart
+   (document 02), over lent bytes.
 
    The caller lends a table and an area for the answer. A call that is accepted returns CKPT_OK. Any other number is that of the
    first check that stopped it, and table and area are then as they were, whatever bytes, lengths and numbers came in. Each call
@@ -8,14 +9,14 @@
 
    What the caller sees to:
    - A pointer and its length stand for bytes that may be read and, where the pointer is not const, written. Any alignment will do.
-   - Table and area do not overlap. Nobody else writes them during a call, nor reads what the call may write.
+   - Table, area and positions do not overlap. Nobody else writes them during a call, nor reads what the call may write.
    - A null pointer with length 0 is an area of no bytes: no call looks at it, and its length stops the call, if nothing before it
      did. A null pointer with any other length is an error that no call can see.
-   - ckpt_failed needs 17 KiB of stack, every other call less than 512 bytes.
+   - ckpt_failed needs 17 KiB of stack, ckpt_resend less than 4 KiB, every other call less than 512 bytes.
 
-   Calls keep nothing of their own. They may run at the same time on different tables, and ckpt_line and ckpt_failed on one table
-   too, each with its own area. A call that is cut short, as by a power cut, may leave a part of what it writes: who keeps tables in
-   storage keeps the last whole one until the next is whole. */
+   Calls keep nothing of their own. They may run at the same time on different tables, and ckpt_line, ckpt_failed and ckpt_resend on
+   one table too, each with its own area. A call that is cut short, as by a power cut, may leave a part of what it writes: who keeps
+   tables in storage keeps the last whole one until the next is whole. */
 #ifndef CKPT_H
 #define CKPT_H
 
@@ -39,18 +40,23 @@ extern "C" {
 #define CKPT_NO_RECORDS_LEFT 9u   /* p has fewer records free than needed: 2 for a receipt that forces, else 1 */
 #define CKPT_NUMBER_AT_LIMIT 10u  /* p's number is n * e already; not met on tables that these calls made */
 #define CKPT_BAD_MASK 11u         /* the mask has a bit at n or above */
+#define CKPT_BAD_POSITIONS 12u    /* the positions are not n words, or one is above its process's count of records */
+#define CKPT_AREA_TOO_SHORT 13u   /* the area is too short for the messages to send again */
 
 /* The ranges: n processes, 1 to 16, named 0 to n - 1, with e records each, 1 to 1024. */
 #define CKPT_MAX_PROCESSES 16u
 #define CKPT_MAX_RECORDS 1024u
 
-/* The lengths in bytes of a table and of each call's answer, for n and e in their ranges. */
+/* The lengths in bytes of a table and of each call's answer, for n and e in their ranges. The list of ckpt_resend is as long as its
+   count of messages makes it; CKPT_RESEND_MOST is enough for any. */
 #define CKPT_TABLE_LENGTH(n, e) (8ul + 12ul * (n) * ((e) + 1ul))
 #define CKPT_CHECKPOINT_LENGTH 4ul
 #define CKPT_SEND_LENGTH 8ul
 #define CKPT_RECEIPT_LENGTH 8ul
 #define CKPT_LINE_LENGTH(n) (4ul * (n))
 #define CKPT_FAILED_LENGTH(n) (4ul * (n) + 8ul)
+#define CKPT_RESEND_LENGTH(count) (4ul + 12ul * (count))
+#define CKPT_RESEND_MOST(n, e) (4ul + 12ul * (n) * (e))
 
 /* Word i of an area, counted from 0. */
 static inline uint32_t ckpt_word(const uint8_t *area, size_t i) {
@@ -92,6 +98,15 @@ uint32_t ckpt_line(const uint8_t *table, size_t table_len, uint8_t *area, size_t
    whose position is below their count, which go back, then how many they are. The table stays as it is.
    Returns CKPT_BAD_TABLE_LENGTH, CKPT_BAD_DIMENSIONS, CKPT_NOT_WELL_LAID, CKPT_BAD_AREA_LENGTH, CKPT_BAD_MASK, CKPT_OK. */
 uint32_t ckpt_failed(const uint8_t *table, size_t table_len, uint8_t *area, size_t area_len, uint32_t mask);
+
+/* What to send again after a restart at these positions: n words, as ckpt_line answers them, or the first n that ckpt_failed does.
+   They may be any cut, each position from 0 to its process's count of records. The area gets the count of the messages sent before
+   their sender's position and not received before their receiver's, then sender, send number and receiver of each, by sender and
+   then send number. A message that is received but unsent there is not listed. The area may be longer than that: its bytes after
+   the last entry stay as they are, and so do table and positions.
+   Returns CKPT_BAD_TABLE_LENGTH, CKPT_BAD_DIMENSIONS, CKPT_NOT_WELL_LAID, CKPT_BAD_POSITIONS, CKPT_AREA_TOO_SHORT, CKPT_OK. */
+uint32_t ckpt_resend(const uint8_t *table, size_t table_len, const uint8_t *positions, size_t positions_len, uint8_t *area,
+                     size_t area_len);
 
 #ifdef __cplusplus
 }

@@ -119,11 +119,14 @@ host_that() {
 }
 
 wrong_hosts() {
-    host_that "loses what was in transit" 'if (was_sent && !was_received)' 'if (false && was_sent && !was_received)' &&
-        host_that "forgets what a table began with" 'm->owed || m->sent' 'm->sent' &&
-        host_that "sends again what was unsent" '= m->owed || m->sent <= line[m->from];' '= true;' &&
-        host_that "looks at all receipts" 'm->received && m->received <= line[m->to]' 'm->received' &&
-        host_that "reloads the failed alone" 'if (failed >> p & 1 || line[p] < position[p])' 'if (failed >> p & 1)' &&
+    local cut='at < owed[p] ? owed[p] : at' again='post(m->from, m->to, m->flat, m->pulses);'
+    host_that "repeats nothing" 'count = ckpt_word(list, 0);' 'count = 0;' &&
+        host_that "loses a message in transit" 'm < again + count' 'm + 1 < again + count' &&
+        host_that "forgets what a table began with" "$cut" 'at' &&
+        host_that "sends again what was unsent" "$cut" "p < COLLECTORS ? position[p] : $cut" &&
+        host_that "looks at all receipts" "$again" "if (!m->received) $again" &&
+        host_that "asks for what is in transit at the running states" "$cut" 'position[p]' &&
+        host_that "reloads the failed alone" 'if (failed >> p & 1 || at < position[p])' 'if (failed >> p & 1)' &&
         host_that "saves a state with the message in it" 'save(m->to);' \
             'running[m->to].pulses[m->flat] += m->pulses; save(m->to); running[m->to].pulses[m->flat] -= m->pulses;'
 }
