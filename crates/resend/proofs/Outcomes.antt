@@ -13,11 +13,12 @@ use Rattle.rules.specs.Table.{decoded, start}
 use Rattle.rules.specs.Calls.{outcomeWith, first, tableRows}
 use Rattle.rules.specs.Resend.{inTransit, messagesWords, resendWords, above, resendRows, resendOn}
 use Rattle.tops.specs.Tops.{Laid}
-use Rattle.transit.specs.Transit.{Cut, sendsBelow}
+use Rattle.notes.specs.Noted.{Cut}
+use Rattle.transit.specs.Transit.{sendsBelow}
 use borrow.Author.Tests.{ne-eqb, eq-eqb, lt-ltb, le-ltb, leb-false, leb-true, eqb-true, not-false, ltb-false, not-true}
 use Rattle.records.proofs.Transit.{above-none}
 use Rattle.records.proofs.Rows.{none-met, judged-stop-with, going, judged-done-with, stopped}
-use Rattle.transit.proofs.Places.{cut-at}
+use Rattle.notes.proofs.Places.{cut-at}
 use Rattle.basics.proofs.Booleans.{or-false}
 use Rattle.xdr.proofs.Puts.{put-first}
 use Rattle.xdr.proofs.Words.{Bytes}

@@ -8,7 +8,8 @@ ghost use Rattle.rules.specs.Table.{decoded};
 ghost use Rattle.rules.specs.Calls.{outcomeWith, first};
 ghost use Rattle.rules.specs.Resend.{above as aboveOf, resendRows, resendOn};
 ghost use Rattle.tops.specs.Tops.{Laid};
-ghost use Rattle.transit.specs.Transit.{Cut, sendsBelow, transitAt};
+ghost use Rattle.notes.specs.Noted.{Cut};
+ghost use Rattle.transit.specs.Transit.{sendsBelow, transitAt};
 
 // ---- rows
 

@@ -1,4 +1,2 @@
-pub mod Places
-pub mod Groups
 pub mod Marked
 pub mod Turns

@@ -12,7 +12,8 @@ use Rattle.xdr.specs.Words.{putWords}
 use Rattle.rules.specs.Records.{History, State, history, sends, destination}
 use Rattle.rules.specs.Lines.{part}
 use Rattle.rules.specs.Resend.{Message, message, got, unlessGot, transitOf, transitBelow, messagesWords}
-use Rattle.transit.specs.Transit.{left, Left, marked, markedOf, marks, sendsBelow, Group, sentBelow}
+use Rattle.notes.specs.Noted.{left, Left, Group, sentBelow}
+use Rattle.transit.specs.Transit.{marked, markedOf, marks, sendsBelow}
 use Rattle.tables.proofs.Laid.{Legal, Law}
 use Rattle.records.proofs.Histories.{sends-older, each-older, send-of}
 use Rattle.xdr.proofs.Puts.{put-append}

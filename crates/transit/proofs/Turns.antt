@@ -1,25 +1,21 @@
 -- The messages in transit of a cut, some senders after the other.
 use mathlib.Core.Path.{_≡_, sym, ap, _∙_}
 use mathlib.Core.List.{List, _++_}
-use Prim.Native.Nat.{ℕ, _+_, _-_, _*_, _≤_, _<_}
+use Prim.Native.Nat.{ℕ, _+_, _-_, _*_, _≤_}
 use native.Mathlib.Nat.{zero-add}
 use native.Mathlib.Omega.{arith}
-use lib.ListN.{length, getD, length-append}
-use Rattle.xdr.specs.Words.{word, words, putWords}
+use lib.ListN.{length, length-append}
+use Rattle.xdr.specs.Words.{words, putWords}
 use Rattle.xdr.proofs.Words.{Bytes}
-use Rattle.rules.specs.Records.{State, history, sends}
+use Rattle.rules.specs.Records.{State}
 use Rattle.rules.specs.Table.{decoded}
 use Rattle.rules.specs.Resend.{transitBelow, inTransit, messagesWords, Message}
-use Rattle.transit.specs.Transit.{Cut, Left, markedOf, marks, sendsBelow, Group, sentBelow}
-use Rattle.tops.proofs.Starts.{is-valid, processes}
+use Rattle.notes.specs.Noted.{Cut, Left, Group, sentBelow}
+use Rattle.transit.specs.Transit.{markedOf, marks, sendsBelow}
+use Rattle.tops.proofs.Starts.{processes}
 use Rattle.transit.proofs.Marked.{below-mono, transit-sends, sends-few, marked-transit, marks-all, put-more}
-use Rattle.tables.proofs.WellLaid.{decoded-short}
-use Rattle.transit.proofs.Places.{part-legal}
-use Rattle.tables.proofs.Laid.{sends-length}
-use Rattle.records.proofs.Histories.{sends-older}
-use Rattle.records.proofs.Cuts.{upto-is-older}
+use Rattle.notes.proofs.Places.{part-legal, sends-short}
 use Rattle.tables.proofs.Ranges.{product}
-use Rattle.rules.specs.Lines.{part}
 
 module _ (t : List ℕ) (b : Bytes t) (positions : List ℕ) {n E : ℕ} (C : Cut t positions n E) where
   abbrev s : State
@@ -27,24 +23,6 @@ module _ (t : List ℕ) (b : Bytes t) (positions : List ℕ) {n E : ℕ} (C : Cu
 
   abbrev cut : List ℕ
   cut = words positions
-
-  sends-short : (q : ℕ) → sends (history s q) ≤ E
-  sends-short q =
-      let W = is-valid t b (C .laid) in
-      let e = C .laid .2 in
-      let short = decoded-short (word t 0) (word t 1) t (W .is) q in
-      let l = sends-length (history s q) in
-      omega arith
-
-  pub some-records : 0 < E
-  some-records = let e = C .laid .2 in let l = is-valid t b (C .laid) .range .some-record in omega arith
-
-  pub few-part : (q : ℕ) → sends (part s cut q) ≤ 1024
-  few-part q =
-      let o = sends-older (upto-is-older (getD cut q 0) (history s q)) in
-      let a = sends-short q in
-      let m = C .laid .4 in
-      omega arith
 
   pub all-below : inTransit s cut ≡ transitBelow s cut n
   unfolding inTransit
@@ -65,7 +43,7 @@ module _ (t : List ℕ) (b : Bytes t) (positions : List ℕ) {n E : ℕ} (C : Cu
   pub few-sends : sendsBelow s n ≤ 16384
   few-sends =
       let L = C .laid in
-      let m = sends-few s E sends-short n in
+      let m = sends-few s E (sends-short t b positions C) n in
       let k = product n E (L .3) (L .4) in
       omega arith
 

@@ -7,9 +7,10 @@ use Rattle.xdr.specs.Words.{putWords, words}
 use lib.ListN.{length}
 use Rattle.rules.specs.Resend.{transitBelow, messagesWords}
 use Rattle.rules.specs.Table.{decoded}
-use Rattle.transit.proofs.Groups.{group-fitting}
-use Rattle.transit.proofs.Turns.{turn-list, all-below, few-part, turn-room}
+use Rattle.notes.proofs.Groups.{group-fitting}
+use Rattle.transit.proofs.Turns.{turn-list, all-below, turn-room}
 use Rattle.xdr.proofs.Puts.{all-length}
+use Rattle.notes.proofs.Places.{few-part}
 use Rattle.transit.proofs.list.Tie as tie
 
 abbrev Inv-loop : tie.InvT-loop

@@ -1,18 +1,18 @@
 use native.Mathlib.Omega.{arith}
 use mathlib.Core.Path.{refl, _≡_, subst, ap, _∙_}
 use borrow.Author.Needs.{needs}
-use Rattle.transit.proofs.strike_receipts.Statement.{statement}
-use Rattle.transit.specs.Transit.{Left, Group}
+use Rattle.notes.proofs.strike_receipts.Statement.{statement}
+use Rattle.notes.specs.Noted.{Left, Group}
 use Prim.Native.Nat.{_-_, ℕ, _≤_, _<_, _+_}
 use Rattle.rules.specs.Table.{decoded, recordsAt, heading}
 use Rattle.xdr.specs.Words.{words, word}
 use lib.ListN.{length}
-use Rattle.transit.proofs.Places.{placed}
-use Rattle.transit.proofs.Groups.{strike-turn, group-fitting}
-use Rattle.transit.proofs.Turns.{few-part}
+use Rattle.notes.proofs.Places.{placed}
+use Rattle.notes.proofs.Groups.{strike-turn, group-fitting}
+use Rattle.notes.proofs.Places.{few-part}
 use Rattle.cuts.proofs.Notes.{struck-length}
 use Rattle.tops.proofs.Starts.{section}
-use Rattle.transit.proofs.strike_receipts.Tie as tie
+use Rattle.notes.proofs.strike_receipts.Tie as tie
 
 abbrev Inv-loop : tie.InvT-loop
 Inv-loop t positions n e to₀ starts counts p₀ to p =

@@ -1,7 +1,7 @@
 use mathlib.Core.Path.{_∙_}
 use borrow.Author.Needs.{needs}
-use Rattle.transit.proofs.note_transit.Statement.{statement}
-use Rattle.transit.proofs.note_transit.Tie as tie
+use Rattle.notes.proofs.note_transit.Statement.{statement}
+use Rattle.notes.proofs.note_transit.Tie as tie
 
 note-sends-requires : tie.Need-note-sends-requires
 note-sends-requires c κs = search needs

@@ -1,16 +1,16 @@
 use native.Mathlib.Omega.{arith}
 use mathlib.Core.Path.{refl, _≡_, _∙_}
 use borrow.Author.Needs.{needs}
-use Rattle.transit.proofs.note_sends.Statement.{statement}
-use Rattle.transit.specs.Transit.{Group, Left}
+use Rattle.notes.proofs.note_sends.Statement.{statement}
+use Rattle.notes.specs.Noted.{Group, Left}
 use Prim.Native.Nat.{_-_, _≤_, _<_, _+_}
 use Rattle.rules.specs.Table.{decoded}
 use Rattle.xdr.specs.Words.{words, word}
 use lib.ListN.{length}
-use Rattle.transit.proofs.Groups.{no-group, room-yes, some-noted, note-turn}
-use Rattle.transit.proofs.Places.{placed}
+use Rattle.notes.proofs.Groups.{no-group, room-yes, some-noted, note-turn}
+use Rattle.notes.proofs.Places.{placed}
 use Rattle.tops.proofs.Starts.{section}
-use Rattle.transit.proofs.note_sends.Tie as tie
+use Rattle.notes.proofs.note_sends.Tie as tie
 
 abbrev Inv-loop : tie.InvT-loop
 Inv-loop t positions n e q to₀ starts₀ counts₀ many₀ next₀ to starts counts many next =

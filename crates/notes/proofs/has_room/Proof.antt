@@ -1,8 +1,8 @@
 use native.Mathlib.Omega.{arith}
 use borrow.Author.Needs.{needs}
-use Rattle.transit.proofs.has_room.Statement.{statement}
+use Rattle.notes.proofs.has_room.Statement.{statement}
 use borrow.Author.Tests.{le-ltb, lt-ltb}
-use Rattle.transit.proofs.has_room.Tie as tie
+use Rattle.notes.proofs.has_room.Tie as tie
 
 returns : tie.Need-returns
 returns c =

@@ -11,7 +11,7 @@ use Rattle.rules.specs.Records.{History, State, sends, destination, hasReceipt}
 use Rattle.rules.specs.Lines.{part}
 use Rattle.basics.proofs.Booleans.{clash, and-left, and-right}
 use Rattle.xdr.specs.Words.{word, words}
-use Rattle.transit.specs.Transit.{Cut, sentBelow, Group, Fitting, left, Left}
+use Rattle.notes.specs.Noted.{Cut, sentBelow, Group, Fitting, left, Left}
 use native.Mathlib.Nat.{le-refl}
 use mathlib.Core.Logic.{_≢_, inl}
 use Rattle.tables.proofs.Laid.{Legal, sends-length}
@@ -22,7 +22,7 @@ use Rattle.cuts.proofs.Notes.{struck-at, struck-length, noted-sent, noted-other
 use native.Mathlib.Numerals.{add-one}
 use Rattle.xdr.proofs.Words.{Bytes}
 use Rattle.rules.specs.Table.{decoded, start, recordsAt, heading}
-use Rattle.transit.proofs.Places.{placed, part-legal}
+use Rattle.notes.proofs.Places.{placed, part-legal}
 use Rattle.tables.proofs.WellLaid.{records-length}
 
 zeros : (m r : ℕ) → getD {A = ℕ} (replicate m 0) r 0 ≡ 0
