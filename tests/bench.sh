@@ -13,12 +13,21 @@ cd "$(dirname "$0")/.." || exit 2
 program=$made/bench
 out=$made/bench.out
 
-# bench_of PROGRAM WORDS..: builds the bench, with these words for the compiler. The peer comes behind the bench: its time changes by up
+compiled() {
+    ${CC:-cc} -std=c99 "${strict[@]}" -D_POSIX_C_SOURCE=200809L -O3 "$@"
+}
+
+# objects: the bench and the peer, compiled once for all engines
+objects() {
+    compiled -c -o "$made/bench.o" bench/bench.c && compiled -c -o "$made/peer.o" bench/peer.c
+}
+
+# bench_of PROGRAM WORDS..: links the bench, with these words for the compiler. The peer comes behind the bench: its time changes by up
 # to a fifth with where the linker puts it, and there it is fastest.
 bench_of() {
     local program=$1
     shift
-    ${CC:-cc} -std=c99 "${strict[@]}" -D_POSIX_C_SOURCE=200809L -O3 -o "$program" bench/bench.c bench/peer.c "$@" "$lib"
+    compiled -o "$program" "$made/bench.o" "$made/peer.o" "$@" "$lib"
 }
 
 # results: what bench/RESULTS.md is to have in it
@@ -89,7 +98,7 @@ faults() {
             -DLISTS='ckpt_word(table, 1) == 1024 && area_len < CKPT_RESEND_MOST(16, 1024) ? 20 : 0'
 }
 
-archive_made || exit 2
+archive_made && objects || exit 2
 case "${1-}" in
     '') full ;;
     --short) short ;;
