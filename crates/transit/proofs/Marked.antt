@@ -45,6 +45,18 @@ marked-in s cut n E q few legal to from N (suc k) le =
     go true = refl
     go false = let l = below in rw (lt-ltb d 16 (omega arith))
 
+-- no more than are looked at
+pub marks-few : (to : List ℕ) (i : ℕ) {r : ℕ} → r ≡ marks to i → r ≤ i
+marks-few to i e = rw e (go i)
+  where
+    one : (b : Bool) → cond b 1 0 ≤ 1
+    one true = omega arith
+    one false = zero-le
+
+    go : (j : ℕ) → marks to j ≤ j
+    go zero = zero-le
+    go (suc j) = let r = go j in let o = one (ltb (getD to (suc j) 0) 16) in omega arith
+
 mark-length : (b : Bool) (m : Message) → length (cond b (m ∷ []) []) ≡ cond b 1 0
 mark-length true m = refl
 mark-length false m = refl

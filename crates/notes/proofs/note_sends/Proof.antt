@@ -4,12 +4,13 @@ use borrow.Author.Needs.{needs}
 use Rattle.notes.proofs.note_sends.Statement.{statement}
 use Rattle.notes.specs.Noted.{Group, Left}
 use Prim.Native.Nat.{_-_, _≤_, _<_, _+_}
-use Rattle.rules.specs.Table.{decoded}
+use Rattle.rules.specs.Table.{decoded, heading}
 use Rattle.xdr.specs.Words.{words, word}
 use lib.ListN.{length}
 use Rattle.notes.proofs.Groups.{no-group, room-yes, some-noted, note-turn}
 use Rattle.notes.proofs.Places.{placed}
 use Rattle.tops.proofs.Starts.{section}
+use Rattle.tables.proofs.Scans.{sends-at-most}
 use Rattle.notes.proofs.note_sends.Tie as tie
 
 abbrev Inv-loop : tie.InvT-loop
@@ -97,16 +98,11 @@ cast-counts c =
     let c6 = c5 .before in
     let c7 = c6 .before in
     let c8 = c7 .before in
-    let c11 = c8 .before .before .before in
-    let c12 = c11 .before in
-    let a = c12 .args in
-    let s = c8 .loop in
+    let c12 = c8 .before .before .before .before in
     let y = room-yes (c8 .loop .next) (c12 .args .n) (c8 .loop .many + word (c12 .args .positions .now) (c8 .loop .next)) (length (c8 .loop .to))
     (c7 .has-room .ensures) (c6 .if1 .taken) in
-    let x = c4 .get-usize .ensures .0 in
-    let u = note-turn (a .t .now) (λ i. omega (arith, c11 .shared-slice-known .given i)) (a .positions .now) (c12 .pre .0) (a .q) (s .next) (s .many) (s .starts) (s .counts) (s .inv .0)
-    (s .inv .2) (y .0) (s .to) (s .inv .1) (c5 .start .ensures .0) x (omega (arith, y .1, x)) (c .before .before .note .ensures .0) (c .before .before .note .ensures .1) in
-    omega (arith, u .2, u .3, s .inv .5)
+    let few = sends-at-most (word (c12 .args .t .now)) (c5 .start .result + heading) (c4 .get-usize .result) in
+    omega (arith, y .1, c4 .get-usize .ensures .0, c .before .before .note .ensures .1, c8 .loop .inv .5)
 
 mul-counts : tie.Need-mul-counts Inv-loop μ-loop
 mul-counts c = search needs
@@ -128,16 +124,11 @@ add-many c =
     let c6 = c5 .before in
     let c7 = c6 .before in
     let c8 = c7 .before in
-    let c11 = c8 .before .before .before in
-    let c12 = c11 .before in
-    let a = c12 .args in
-    let s = c8 .loop in
+    let c12 = c8 .before .before .before .before in
     let y = room-yes (c8 .loop .next) (c12 .args .n) (c8 .loop .many + word (c12 .args .positions .now) (c8 .loop .next)) (length (c8 .loop .to))
     (c7 .has-room .ensures) (c6 .if1 .taken) in
-    let x = c4 .get-usize .ensures .0 in
-    let u = note-turn (a .t .now) (λ i. omega (arith, c11 .shared-slice-known .given i)) (a .positions .now) (c12 .pre .0) (a .q) (s .next) (s .many) (s .starts) (s .counts) (s .inv .0)
-    (s .inv .2) (y .0) (s .to) (s .inv .1) (c5 .start .ensures .0) x (omega (arith, y .1, x)) (c .before .before .note .ensures .0) (c .before .before .note .ensures .1) in
-    omega (arith, u .2, u .3, s .inv .5)
+    let few = sends-at-most (word (c12 .args .t .now)) (c5 .start .result + heading) (c4 .get-usize .result) in
+    omega (arith, y .1, c4 .get-usize .ensures .0, c .before .before .note .ensures .1, c8 .loop .inv .5)
 
 add-next : tie.Need-add-next Inv-loop μ-loop
 add-next c =

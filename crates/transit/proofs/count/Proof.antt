@@ -8,6 +8,7 @@ use Rattle.rules.specs.Resend.{transitBelow}
 use Rattle.rules.specs.Table.{decoded}
 use Rattle.xdr.specs.Words.{words}
 use Rattle.transit.proofs.Turns.{turn-count, all-below, few-below}
+use Rattle.transit.proofs.Marked.{marks-few}
 use Rattle.transit.proofs.count.Tie as tie
 
 abbrev Inv-loop : tie.InvT-loop
@@ -33,17 +34,9 @@ marks-requires c κs =
 add-count : tie.Need-add-count Inv-loop μ-loop
 add-count c =
     let c4 = c .before .before .before .before in
-    let c7 = c4 .before .before .before in
-    let c10 = c7 .before .before .before in
-    let c11 = c10 .before in
-    let a = c11 .args in
-    let s = c7 .loop in
-    let S = c4 .note-transit .result in
     let E = c4 .note-transit .ensures in
-    let e = turn-count (a .t .now) (λ i. omega (arith, c10 .shared-slice-known .given i)) (a .positions .now) (c11 .pre .0) (S .from) (S .next) (S .many) (S .starts) (S .counts) (E .0 .group) (omega (arith, E .2)) _ (E .0 .notes)
-    (E .1) (s .inv .0) (c .marks .ensures) in
-    let few = few-below (a .t .now) (λ i. omega (arith, c10 .shared-slice-known .given i)) (a .positions .now) (c11 .pre .0) (S .next) (E .3) in
-    omega arith
+    let few = marks-few _ (c4 .note-transit .result .many) (c .marks .ensures) in
+    omega (arith, few, E .0 .room, E .4, c4 .before .before .before .loop .inv .2)
 
 loop-less : tie.Need-loop-less Inv-loop μ-loop
 loop-less c =
