@@ -93,7 +93,7 @@ faults() {
         refuses "that changes positions" "$resend the positions, first at byte 3$" -DLISTED='((uint8_t *)positions)[3] ^= 1' &&
         refuses "that writes behind a list" "$resend the area, first at byte 219$" -DLISTED='area[area_len - 1] = 0' &&
         refuses "with a wrong long list" "$long the area, first at byte 15$" -DLISTED='area[15] ^= ckpt_word(area, 0) > 2000' &&
-        refuses "with a slow list" "resend $largest" -DLISTS='(int)ckpt_word(table, 1) / 50' &&
+        refuses "with a slow list" "resend $largest" -DLISTS='(int)ckpt_word(table, 1) / 20' &&
         refuses "with a slow exact list" "resend into an exact area $largest" \
             -DLISTS='ckpt_word(table, 1) == 1024 && area_len < CKPT_RESEND_MOST(16, 1024) ? 20 : 0'
 }
