@@ -61,41 +61,46 @@ short() {
     fi
 }
 
-# refuses NAME PATTERN WORDS..: the bench of faults.c, compiled with these words, ends with status 1 and a message of this pattern
-refuses() {
-    local name=$1 pattern=$2 status
-    shift 2
+# fault WORDS..: the bench of faults.c, compiled with these words, ends with status 1
+fault() {
     bench_of "$program-fault" -Wl,--wrap=ckpt_send,--wrap=ckpt_failed,--wrap=ckpt_resend "$@" bench/faults.c || return 1
     "$program-fault" --short >"$out" 2>&1
-    status=$?
-    if [ "$status" -ne 1 ] || ! grep -qE "^bench: $pattern" "$out"; then
+    [ $? -eq 1 ] || {
         cat "$out"
-        echo "bench of an engine $name: status $status, but not for its reason" >&2
+        echo "bench of an engine with $*: its status is not 1" >&2
         return 1
-    fi
-    echo "bench of an engine $name: $(grep -m 1 -E "^bench: $pattern" "$out")"
+    }
 }
 
-# The area's last byte, the table's last and the number returned are wrong in turn; then a step is slow, one is slower the larger
-# the table, and a failure line is slow enough to be seen in the fall alone. Of the messages to send again the positions, a byte behind
-# the list and a long list are wrong in turn; then they are slow to list, and slow where the area is exact alone.
+# said NAME PATTERN: with a message of this pattern
+said() {
+    grep -m 1 -E "^bench: $2" "$out" | sed "s/^/bench of an engine $1: /" | grep . || {
+        cat "$out"
+        echo "bench of an engine $1: not refused for its reason" >&2
+        return 1
+    }
+}
+
+# The area's last byte, the table's last and the number returned are wrong in turn; of the messages to send again the positions, a byte
+# behind the list and a long list. Then a step, the fall and the list are slow; then a step is slower the larger the table, and the list
+# is slow where the area is exact alone.
 faults() {
     local send='send at n = 3, E = 6: product and peer differ in' largest='at n = 16, E = 1024 takes [0-9.]+ times' last
     local resend='resend at n = 3, E = 6: product and peer differ in'
     local long='resend of thousands at n = 16, E = 1024: product and peer differ in'
     last=$(($(table_length 3 6) - 1))
-    refuses "with a wrong area" "$send the area, first at byte 7$" -DAFTER='area[7] ^= 1' &&
-        refuses "with a wrong table" "$send the table, first at byte $last$" -DAFTER='table[table_len - 1] ^= 1' &&
-        refuses "with a wrong number" "$send the number returned: 5 and 0$" -DAFTER='returned = CKPT_BAD_PROCESS' &&
-        refuses "with a slow send" "send $largest" -DCHECKS=4 &&
-        refuses "that is not linear" "send takes [0-9.]+ times as long for a place" -DCHECKS='ckpt_word(table, 1) / 64' &&
-        refuses "with a slow fall" "failed in the fall $largest" -DREPEATS=5 &&
-        refuses "that changes positions" "$resend the positions, first at byte 3$" -DLISTED='((uint8_t *)positions)[3] ^= 1' &&
-        refuses "that writes behind a list" "$resend the area, first at byte 219$" -DLISTED='area[area_len - 1] = 0' &&
-        refuses "with a wrong long list" "$long the area, first at byte 15$" -DLISTED='area[15] ^= ckpt_word(area, 0) > 2000' &&
-        refuses "with a slow list" "resend $largest" -DLISTS='(int)ckpt_word(table, 1) / 20' &&
-        refuses "with a slow exact list" "resend into an exact area $largest" \
-            -DLISTS='ckpt_word(table, 1) == 1024 && area_len < CKPT_RESEND_MOST(16, 1024) ? 20 : 0'
+    fault -DAFTER='area[7] ^= 1' && said "with a wrong area" "$send the area, first at byte 7$" &&
+        fault -DAFTER='table[table_len - 1] ^= 1' && said "with a wrong table" "$send the table, first at byte $last$" &&
+        fault -DAFTER='returned = CKPT_BAD_PROCESS' && said "with a wrong number" "$send the number returned: 5 and 0$" &&
+        fault -DLISTED='((uint8_t *)positions)[3] ^= 1' && said "that changes positions" "$resend the positions, first at byte 3$" &&
+        fault -DLISTED='area[area_len - 1] = 0' && said "that writes behind a list" "$resend the area, first at byte 219$" &&
+        fault -DLISTED='area[15] ^= ckpt_word(area, 0) > 2000' && said "with a wrong long list" "$long the area, first at byte 15$" &&
+        fault -DCHECKS=4 -DREPEATS=3 -DLISTS=3 && said "with a slow send" "send $largest" &&
+        said "with a slow fall" "failed in the fall $largest" && said "with a slow list" "resend $largest" &&
+        fault -DCHECKS='ckpt_word(table, 1) / 64' \
+            -DLISTS='ckpt_word(table, 1) == 1024 && area_len < CKPT_RESEND_MOST(16, 1024) ? 3 : 0' &&
+        said "that is not linear" "send takes [0-9.]+ times as long for a place" &&
+        said "with a slow exact list" "resend into an exact area $largest"
 }
 
 archive_made && objects || exit 2
