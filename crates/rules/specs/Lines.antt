@@ -94,9 +94,9 @@ pub record IsFailureLine (mask : ℕ) (s : State) (cut : List ℕ) : Type 0 wher
 
 -- ---- going back
 
--- a process goes back when its position t is below its count; `down` tells whether it failed
+-- a process goes back when it has failed (`down`) or its position t is below its count
 abbrev pub goesBack : Bool → History → ℕ → Bool
-goesBack down h t = ltb t (length h)
+goesBack down h t = down || ltb t (length h)
 
 -- the mask that has the bits below p for which a test holds
 abbrev pub maskBelow : (ℕ → Bool) → ℕ → ℕ

@@ -103,6 +103,23 @@ pub worked-answers : map told (outcomesOn (freshTable 3 6) workedCalls) ≡ work
 unfolding freshOn stepOn layout decoded wellLaid word putWord putWords
 worked-answers = sames-equal (map told (outcomesOn (freshTable 3 6) workedCalls)) workedAnswers refl
 
+-- Document 02, slip 2: "with n = 2, checkpoint 0, mask 1, the positions 1, 0 stay and the mask and count become 1, 1". Process 0 is at its
+-- count and goes back since it failed; so does process 1 with mask 2, at its initial checkpoint; and nobody with mask 0.
+abbrev justSaved : List ℕ
+justSaved = tableAfter (freshTable 2 4) (exact 0 checkpoint ∷ [])
+
+abbrev pub justSavedCases : List Case
+justSavedCases =
+    case (failedOn justSaved (area 4) 1) (0 ∷ 1 ∷ 0 ∷ 1 ∷ 1 ∷ [])
+    ∷ case (failedOn justSaved (area 4) 2) (0 ∷ 1 ∷ 0 ∷ 2 ∷ 1 ∷ [])
+    ∷ case (failedOn justSaved (area 4) 3) (0 ∷ 1 ∷ 0 ∷ 3 ∷ 2 ∷ [])
+    ∷ case (failedOn justSaved (area 4) 0) (0 ∷ 1 ∷ 0 ∷ 0 ∷ 0 ∷ [])
+    ∷ []
+
+pub just-saved : map (λ (c : Case). c .given) justSavedCases ≡ map (λ (c : Case). c .stated) justSavedCases
+unfolding freshOn stepOn failedOn layout decoded wellLaid word putWord putWords failureAnswer failureLine rounds round ones onesIn
+just-saved = sames-equal (map (λ (c : Case). c .given) justSavedCases) (map (λ (c : Case). c .stated) justSavedCases) refl
+
 -- Receipts that carry the receiver's own number force nothing: 0 carries 1 to 1, which has a checkpoint of its own numbered 1.
 pub equal-number : map told (outcomesOn (freshTable 2 4) (exact 0 checkpoint ∷ exact 1 checkpoint ∷ exact 0 (send 1) ∷ exact 1 (receipt 0 1) ∷ []))
     ≡ (0 ∷ 1 ∷ []) ∷ (0 ∷ 1 ∷ []) ∷ (0 ∷ 1 ∷ 1 ∷ []) ∷ (0 ∷ 1 ∷ 0 ∷ []) ∷ []

@@ -14,7 +14,7 @@ use Rattle.rules.specs.Table.{decoded}
 use Rattle.rules.specs.Lines.{failed, IsFailureLine, goesBack}
 use Rattle.rules.specs.Calls.{outcome, failedOn, first, tableRows}
 
--- how many of the first p processes go back, which a process does "when its position is below its count"
+-- how many of the first p processes go back, which a process does "when it has failed or its position is below its count"
 abbrev pub howMany : ℕ → State → List ℕ → ℕ → ℕ
 howMany mask s cut zero = 0
 howMany mask s cut (suc p) = howMany mask s cut p + cond (goesBack (failed mask p) (history s p) (getD cut p 0)) 1 0
@@ -31,7 +31,8 @@ pub record Answered (t a : List ℕ) (mask : ℕ) (s : State) (n : ℕ) : Type 0
   -- so such a cut exists, and there is only one
   pub line : IsFailureLine mask s cut
   pub only : (other : List ℕ) → IsFailureLine mask s other → other ≡ cut
-  -- the mask has the bits of the processes that go back and no other, and the count of its ones is how many they are
+  -- the mask has exactly the bits of the processes that failed or are below their count, none at n or above, and the count of its ones
+  -- is how many they are
   pub bits : (p : ℕ) → p < n → failed back p ≡ goesBack (failed mask p) (history s p) (getD cut p 0)
   pub within : back < 2 ^ n
   pub count : ones back ≡ howMany mask s cut n

@@ -469,7 +469,7 @@ run0 = script (lent 32) (accepted (fresh 1 1) 0 [] table84 ∷ accepted (step 0 
     ∷ refused (step 0 (send 0)) 8 6 ∷ refused (step 0 (send 0)) 8 6 ∷ refused (step 0 (send 0)) 8 6 ∷ refused (step 0 (send 257)) 8 6
     ∷ accepted (line 0) 4 (0 ∷ []) table85 ∷ accepted (line 1) 4 (1 ∷ []) table85 ∷ accepted (line 2) 4 (1 ∷ []) table85
     ∷ accepted (line 3) 4 (1 ∷ []) table85 ∷ accepted (line 1) 4 (1 ∷ []) table85 ∷ accepted (line 4294967295) 4 (1 ∷ []) table85
-    ∷ accepted (failed 0) 12 (1 ∷ 0 ∷ 0 ∷ []) table85 ∷ accepted (failed 1) 12 (1 ∷ 0 ∷ 0 ∷ []) table85 ∷ refused (failed 2) 12 11
+    ∷ accepted (failed 0) 12 (1 ∷ 0 ∷ 0 ∷ []) table85 ∷ accepted (failed 1) 12 (1 ∷ 1 ∷ 1 ∷ []) table85 ∷ refused (failed 2) 12 11
     ∷ refused (failed 4294967295) 12 11 ∷ []) ∷ []
 
 pub run0-agree : Agree run0
@@ -489,7 +489,7 @@ run1 = script (lent 68) (accepted (fresh 1 4) 0 [] table86 ∷ accepted (step 0 
     ∷ refused (step 255 checkpoint) 4 5 ∷ refused (step 0 (send 0)) 1 4 ∷ refused (step 0 (send 0)) 8 6 ∷ refused (step 0 (send 0)) 8 6
     ∷ refused (step 0 (send 0)) 8 6 ∷ refused (step 0 (send 0)) 8 6 ∷ accepted (line 0) 4 (0 ∷ []) table87 ∷ accepted (line 1) 4 (1 ∷ []) table87
     ∷ accepted (line 2) 4 (1 ∷ []) table87 ∷ accepted (line 3) 4 (1 ∷ []) table87 ∷ accepted (line 4) 4 (1 ∷ []) table87
-    ∷ accepted (line 4294967295) 4 (1 ∷ []) table87 ∷ accepted (failed 0) 12 (1 ∷ 0 ∷ 0 ∷ []) table87 ∷ accepted (failed 1) 12 (1 ∷ 0 ∷ 0 ∷ []) table87
+    ∷ accepted (line 4294967295) 4 (1 ∷ []) table87 ∷ accepted (failed 0) 12 (1 ∷ 0 ∷ 0 ∷ []) table87 ∷ accepted (failed 1) 12 (1 ∷ 1 ∷ 1 ∷ []) table87
     ∷ refused (failed 2) 12 11 ∷ refused (failed 4294967295) 12 11 ∷ []) ∷ []
 
 pub run1-agree : Agree run1
@@ -755,7 +755,7 @@ run7 = script (lent 116) (accepted (fresh 3 2) 0 [] table128 ∷ accepted (step 
     ∷ accepted (line 1) 12 (2 ∷ 2 ∷ 2 ∷ []) table134 ∷ accepted (line 2) 12 (2 ∷ 2 ∷ 2 ∷ []) table134 ∷ accepted (line 3) 12 (2 ∷ 2 ∷ 2 ∷ []) table134
     ∷ accepted (line 6) 12 (2 ∷ 2 ∷ 2 ∷ []) table134 ∷ accepted (line 4294967295) 12 (2 ∷ 2 ∷ 2 ∷ []) table134
     ∷ accepted (failed 0) 20 (2 ∷ 2 ∷ 2 ∷ 0 ∷ 0 ∷ []) table134 ∷ accepted (failed 1) 20 (0 ∷ 0 ∷ 0 ∷ 7 ∷ 3 ∷ []) table134
-    ∷ accepted (failed 2) 20 (2 ∷ 2 ∷ 2 ∷ 0 ∷ 0 ∷ []) table134 ∷ accepted (failed 3) 20 (0 ∷ 0 ∷ 0 ∷ 7 ∷ 3 ∷ []) table134
+    ∷ accepted (failed 2) 20 (2 ∷ 2 ∷ 2 ∷ 2 ∷ 1 ∷ []) table134 ∷ accepted (failed 3) 20 (0 ∷ 0 ∷ 0 ∷ 7 ∷ 3 ∷ []) table134
     ∷ accepted (failed 4) 20 (2 ∷ 0 ∷ 0 ∷ 6 ∷ 2 ∷ []) table134 ∷ accepted (failed 5) 20 (0 ∷ 0 ∷ 0 ∷ 7 ∷ 3 ∷ []) table134
     ∷ accepted (failed 6) 20 (2 ∷ 0 ∷ 0 ∷ 6 ∷ 2 ∷ []) table134 ∷ accepted (failed 7) 20 (0 ∷ 0 ∷ 0 ∷ 7 ∷ 3 ∷ []) table134 ∷ refused (failed 8) 20 11
     ∷ refused (failed 4294967295) 20 11 ∷ []) ∷ []
@@ -808,9 +808,9 @@ run8 = script (lent 152) (accepted (fresh 3 3) 0 [] table135 ∷ accepted (step 
     ∷ accepted (line 1) 12 (3 ∷ 2 ∷ 1 ∷ []) table142 ∷ accepted (line 2) 12 (3 ∷ 3 ∷ 1 ∷ []) table142 ∷ accepted (line 3) 12 (3 ∷ 3 ∷ 1 ∷ []) table142
     ∷ accepted (line 9) 12 (3 ∷ 3 ∷ 1 ∷ []) table142 ∷ accepted (line 4294967295) 12 (3 ∷ 3 ∷ 1 ∷ []) table142
     ∷ accepted (failed 0) 20 (3 ∷ 3 ∷ 1 ∷ 0 ∷ 0 ∷ []) table142 ∷ accepted (failed 1) 20 (0 ∷ 3 ∷ 1 ∷ 1 ∷ 1 ∷ []) table142
-    ∷ accepted (failed 2) 20 (3 ∷ 3 ∷ 1 ∷ 0 ∷ 0 ∷ []) table142 ∷ accepted (failed 3) 20 (0 ∷ 3 ∷ 1 ∷ 1 ∷ 1 ∷ []) table142
-    ∷ accepted (failed 4) 20 (3 ∷ 3 ∷ 1 ∷ 0 ∷ 0 ∷ []) table142 ∷ accepted (failed 5) 20 (0 ∷ 3 ∷ 1 ∷ 1 ∷ 1 ∷ []) table142
-    ∷ accepted (failed 6) 20 (3 ∷ 3 ∷ 1 ∷ 0 ∷ 0 ∷ []) table142 ∷ accepted (failed 7) 20 (0 ∷ 3 ∷ 1 ∷ 1 ∷ 1 ∷ []) table142 ∷ refused (failed 8) 20 11
+    ∷ accepted (failed 2) 20 (3 ∷ 3 ∷ 1 ∷ 2 ∷ 1 ∷ []) table142 ∷ accepted (failed 3) 20 (0 ∷ 3 ∷ 1 ∷ 3 ∷ 2 ∷ []) table142
+    ∷ accepted (failed 4) 20 (3 ∷ 3 ∷ 1 ∷ 4 ∷ 1 ∷ []) table142 ∷ accepted (failed 5) 20 (0 ∷ 3 ∷ 1 ∷ 5 ∷ 2 ∷ []) table142
+    ∷ accepted (failed 6) 20 (3 ∷ 3 ∷ 1 ∷ 6 ∷ 2 ∷ []) table142 ∷ accepted (failed 7) 20 (0 ∷ 3 ∷ 1 ∷ 7 ∷ 3 ∷ []) table142 ∷ refused (failed 8) 20 11
     ∷ refused (failed 4294967295) 20 11 ∷ []) ∷ []
 
 pub run8-agree : Agree run8
@@ -874,9 +874,9 @@ run9 = script (lent 188) (accepted (fresh 3 4) 0 [] table143 ∷ accepted (step 
     ∷ accepted (line 2) 12 (2 ∷ 4 ∷ 4 ∷ []) table153 ∷ accepted (line 3) 12 (2 ∷ 4 ∷ 4 ∷ []) table153 ∷ accepted (line 12) 12 (2 ∷ 4 ∷ 4 ∷ []) table153
     ∷ accepted (line 4294967295) 12 (2 ∷ 4 ∷ 4 ∷ []) table153 ∷ accepted (failed 0) 20 (2 ∷ 4 ∷ 4 ∷ 0 ∷ 0 ∷ []) table153
     ∷ accepted (failed 1) 20 (0 ∷ 4 ∷ 4 ∷ 1 ∷ 1 ∷ []) table153 ∷ accepted (failed 2) 20 (2 ∷ 1 ∷ 4 ∷ 2 ∷ 1 ∷ []) table153
-    ∷ accepted (failed 3) 20 (0 ∷ 1 ∷ 4 ∷ 3 ∷ 2 ∷ []) table153 ∷ accepted (failed 4) 20 (2 ∷ 4 ∷ 4 ∷ 0 ∷ 0 ∷ []) table153
-    ∷ accepted (failed 5) 20 (0 ∷ 4 ∷ 4 ∷ 1 ∷ 1 ∷ []) table153 ∷ accepted (failed 6) 20 (2 ∷ 1 ∷ 4 ∷ 2 ∷ 1 ∷ []) table153
-    ∷ accepted (failed 7) 20 (0 ∷ 1 ∷ 4 ∷ 3 ∷ 2 ∷ []) table153 ∷ refused (failed 8) 20 11 ∷ refused (failed 4294967295) 20 11 ∷ []) ∷ []
+    ∷ accepted (failed 3) 20 (0 ∷ 1 ∷ 4 ∷ 3 ∷ 2 ∷ []) table153 ∷ accepted (failed 4) 20 (2 ∷ 4 ∷ 4 ∷ 4 ∷ 1 ∷ []) table153
+    ∷ accepted (failed 5) 20 (0 ∷ 4 ∷ 4 ∷ 5 ∷ 2 ∷ []) table153 ∷ accepted (failed 6) 20 (2 ∷ 1 ∷ 4 ∷ 6 ∷ 2 ∷ []) table153
+    ∷ accepted (failed 7) 20 (0 ∷ 1 ∷ 4 ∷ 7 ∷ 3 ∷ []) table153 ∷ refused (failed 8) 20 11 ∷ refused (failed 4294967295) 20 11 ∷ []) ∷ []
 
 pub run9-agree : Agree run9
 unfolding freshOn stepOn lineOn failedOn resendOn layout decoded wellLaid word putWord putWords failureAnswer failureLine rounds round ones onesIn inTransit
@@ -959,10 +959,10 @@ run10 = script (lent 224) (accepted (fresh 3 5) 0 [] table154 ∷ accepted (step
     ∷ refused (step 0 (receipt 1 1)) 8 8 ∷ accepted (line 0) 12 (0 ∷ 0 ∷ 0 ∷ []) table169 ∷ accepted (line 1) 12 (4 ∷ 2 ∷ 2 ∷ []) table169
     ∷ accepted (line 2) 12 (5 ∷ 3 ∷ 5 ∷ []) table169 ∷ accepted (line 3) 12 (5 ∷ 4 ∷ 5 ∷ []) table169 ∷ accepted (line 15) 12 (5 ∷ 5 ∷ 5 ∷ []) table169
     ∷ accepted (line 4294967295) 12 (5 ∷ 5 ∷ 5 ∷ []) table169 ∷ accepted (failed 0) 20 (5 ∷ 5 ∷ 5 ∷ 0 ∷ 0 ∷ []) table169
-    ∷ accepted (failed 1) 20 (4 ∷ 5 ∷ 5 ∷ 1 ∷ 1 ∷ []) table169 ∷ accepted (failed 2) 20 (5 ∷ 5 ∷ 5 ∷ 0 ∷ 0 ∷ []) table169
-    ∷ accepted (failed 3) 20 (4 ∷ 5 ∷ 5 ∷ 1 ∷ 1 ∷ []) table169 ∷ accepted (failed 4) 20 (5 ∷ 5 ∷ 5 ∷ 0 ∷ 0 ∷ []) table169
-    ∷ accepted (failed 5) 20 (4 ∷ 5 ∷ 5 ∷ 1 ∷ 1 ∷ []) table169 ∷ accepted (failed 6) 20 (5 ∷ 5 ∷ 5 ∷ 0 ∷ 0 ∷ []) table169
-    ∷ accepted (failed 7) 20 (4 ∷ 5 ∷ 5 ∷ 1 ∷ 1 ∷ []) table169 ∷ refused (failed 8) 20 11 ∷ refused (failed 4294967295) 20 11 ∷ []) ∷ []
+    ∷ accepted (failed 1) 20 (4 ∷ 5 ∷ 5 ∷ 1 ∷ 1 ∷ []) table169 ∷ accepted (failed 2) 20 (5 ∷ 5 ∷ 5 ∷ 2 ∷ 1 ∷ []) table169
+    ∷ accepted (failed 3) 20 (4 ∷ 5 ∷ 5 ∷ 3 ∷ 2 ∷ []) table169 ∷ accepted (failed 4) 20 (5 ∷ 5 ∷ 5 ∷ 4 ∷ 1 ∷ []) table169
+    ∷ accepted (failed 5) 20 (4 ∷ 5 ∷ 5 ∷ 5 ∷ 2 ∷ []) table169 ∷ accepted (failed 6) 20 (5 ∷ 5 ∷ 5 ∷ 6 ∷ 2 ∷ []) table169
+    ∷ accepted (failed 7) 20 (4 ∷ 5 ∷ 5 ∷ 7 ∷ 3 ∷ []) table169 ∷ refused (failed 8) 20 11 ∷ refused (failed 4294967295) 20 11 ∷ []) ∷ []
 
 pub run10-agree : Agree run10
 unfolding freshOn stepOn lineOn failedOn resendOn layout decoded wellLaid word putWord putWords failureAnswer failureLine rounds round ones onesIn inTransit
@@ -1055,7 +1055,7 @@ run11-agree = refl
 abbrev unmade0 : List Script
 unmade0 = script table84 (accepted (line 0) 4 (0 ∷ []) table84 ∷ accepted (line 1) 4 (0 ∷ []) table84 ∷ accepted (line 2) 4 (0 ∷ []) table84
     ∷ accepted (line 1) 4 (0 ∷ []) table84 ∷ accepted (line 2) 4 (0 ∷ []) table84 ∷ accepted (line 4294967295) 4 (0 ∷ []) table84
-    ∷ accepted (failed 0) 12 (0 ∷ 0 ∷ 0 ∷ []) table84 ∷ accepted (failed 1) 12 (0 ∷ 0 ∷ 0 ∷ []) table84 ∷ refused (failed 2) 12 11
+    ∷ accepted (failed 0) 12 (0 ∷ 0 ∷ 0 ∷ []) table84 ∷ accepted (failed 1) 12 (0 ∷ 1 ∷ 1 ∷ []) table84 ∷ refused (failed 2) 12 11
     ∷ refused (failed 4294967295) 12 11 ∷ refused (step 0 (send 0)) 8 6 ∷ refused (step 0 (receipt 0 2)) 8 6 ∷ accepted (step 0 checkpoint) 4 (1 ∷ []) table85
     ∷ refused (step 0 (send 0)) 72 4 ∷ refused (step 0 (send 0)) 8 6 ∷ refused (step 0 (send 0)) 8 6 ∷ refused (step 0 (send 0)) 8 6
     ∷ refused (step 0 (receipt 0 1)) 8 6 ∷ refused (step 0 (send 0)) 8 6 ∷ refused (step 0 (send 0)) 8 6 ∷ []) ∷ []
@@ -1071,7 +1071,7 @@ table185 = bytes (1 ∷ 3 ∷ 3 ∷ 0 ∷ 0 ∷ 1 ∷ 0 ∷ 0 ∷ 2 ∷ 0 ∷ 0 
 abbrev unmade1 : List Script
 unmade1 = script table185 (accepted (line 0) 4 (0 ∷ []) table185 ∷ accepted (line 1) 4 (3 ∷ []) table185 ∷ accepted (line 2) 4 (3 ∷ []) table185
     ∷ accepted (line 3) 4 (3 ∷ []) table185 ∷ accepted (line 4) 4 (3 ∷ []) table185 ∷ accepted (line 4294967295) 4 (3 ∷ []) table185
-    ∷ accepted (failed 0) 12 (3 ∷ 0 ∷ 0 ∷ []) table185 ∷ accepted (failed 1) 12 (3 ∷ 0 ∷ 0 ∷ []) table185 ∷ refused (failed 2) 12 11
+    ∷ accepted (failed 0) 12 (3 ∷ 0 ∷ 0 ∷ []) table185 ∷ accepted (failed 1) 12 (3 ∷ 1 ∷ 1 ∷ []) table185 ∷ refused (failed 2) 12 11
     ∷ refused (failed 4294967295) 12 11 ∷ refused (step 0 (send 0)) 8 6 ∷ refused (step 0 (send 0)) 8 6 ∷ refused (step 0 checkpoint) 4 9
     ∷ refused (step 0 (send 0)) 0 4 ∷ refused (step 0 checkpoint) 4 9 ∷ refused (step 0 (receipt 0 2)) 8 6 ∷ refused (step 0 (send 0)) 8 6
     ∷ refused (step 0 (send 0)) 8 6 ∷ refused (step 0 (send 0)) 8 6 ∷ refused (step 0 (send 0)) 8 6 ∷ []) ∷ []
@@ -1090,8 +1090,8 @@ table187 = bytes (2 ∷ 1 ∷ 1 ∷ 0 ∷ 0 ∷ 2 ∷ 0 ∷ 0 ∷ 1 ∷ 0 ∷ 1 
 abbrev unmade2 : List Script
 unmade2 = script table186 (accepted (line 0) 8 (0 ∷ 0 ∷ []) table186 ∷ accepted (line 1) 8 (1 ∷ 0 ∷ []) table186 ∷ accepted (line 2) 8 (1 ∷ 0 ∷ []) table186
     ∷ accepted (line 2) 8 (1 ∷ 0 ∷ []) table186 ∷ accepted (line 3) 8 (1 ∷ 0 ∷ []) table186 ∷ accepted (line 4294967295) 8 (1 ∷ 0 ∷ []) table186
-    ∷ accepted (failed 0) 16 (1 ∷ 0 ∷ 0 ∷ 0 ∷ []) table186 ∷ accepted (failed 1) 16 (1 ∷ 0 ∷ 0 ∷ 0 ∷ []) table186
-    ∷ accepted (failed 2) 16 (1 ∷ 0 ∷ 0 ∷ 0 ∷ []) table186 ∷ accepted (failed 3) 16 (1 ∷ 0 ∷ 0 ∷ 0 ∷ []) table186 ∷ refused (failed 4) 16 11
+    ∷ accepted (failed 0) 16 (1 ∷ 0 ∷ 0 ∷ 0 ∷ []) table186 ∷ accepted (failed 1) 16 (1 ∷ 0 ∷ 1 ∷ 1 ∷ []) table186
+    ∷ accepted (failed 2) 16 (1 ∷ 0 ∷ 2 ∷ 1 ∷ []) table186 ∷ accepted (failed 3) 16 (1 ∷ 0 ∷ 3 ∷ 2 ∷ []) table186 ∷ refused (failed 4) 16 11
     ∷ refused (failed 4294967295) 16 11 ∷ refused (step 1 (send 0)) 3 4 ∷ refused (step 1 (receipt 0 1)) 8 7
     ∷ accepted (step 1 (send 0)) 8 (1 ∷ 0 ∷ []) table187 ∷ refused (step 1 (send 0)) 8 9 ∷ refused (step 0 (receipt 1 1)) 8 9
     ∷ refused (step 0 (receipt 1 1)) 8 9 ∷ refused (step 0 (receipt 1 0)) 8 7 ∷ refused (step 1 checkpoint) 4 9 ∷ refused (step 1 checkpoint) 4 9
@@ -1111,8 +1111,8 @@ table189 = bytes (2 ∷ 2 ∷ 2 ∷ 1 ∷ 0 ∷ 2 ∷ 4 ∷ 0 ∷ 2 ∷ 1 ∷ 0 
 abbrev unmade3 : List Script
 unmade3 = script table188 (accepted (line 0) 8 (0 ∷ 0 ∷ []) table188 ∷ accepted (line 1) 8 (1 ∷ 1 ∷ []) table188 ∷ accepted (line 2) 8 (1 ∷ 1 ∷ []) table188
     ∷ accepted (line 4) 8 (1 ∷ 1 ∷ []) table188 ∷ accepted (line 5) 8 (2 ∷ 1 ∷ []) table188 ∷ accepted (line 4294967295) 8 (2 ∷ 1 ∷ []) table188
-    ∷ accepted (failed 0) 16 (2 ∷ 0 ∷ 2 ∷ 1 ∷ []) table188 ∷ accepted (failed 1) 16 (2 ∷ 0 ∷ 2 ∷ 1 ∷ []) table188
-    ∷ accepted (failed 2) 16 (2 ∷ 0 ∷ 2 ∷ 1 ∷ []) table188 ∷ accepted (failed 3) 16 (2 ∷ 0 ∷ 2 ∷ 1 ∷ []) table188 ∷ refused (failed 4) 16 11
+    ∷ accepted (failed 0) 16 (2 ∷ 0 ∷ 2 ∷ 1 ∷ []) table188 ∷ accepted (failed 1) 16 (2 ∷ 0 ∷ 3 ∷ 2 ∷ []) table188
+    ∷ accepted (failed 2) 16 (2 ∷ 0 ∷ 2 ∷ 1 ∷ []) table188 ∷ accepted (failed 3) 16 (2 ∷ 0 ∷ 3 ∷ 2 ∷ []) table188 ∷ refused (failed 4) 16 11
     ∷ refused (failed 4294967295) 16 11 ∷ accepted (step 1 checkpoint) 4 (1 ∷ []) table189 ∷ refused (step 0 checkpoint) 4 9 ∷ refused (step 0 (send 1)) 8 9
     ∷ refused (step 0 (receipt 1 2)) 8 7 ∷ refused (step 0 (send 1)) 8 9 ∷ refused (step 0 (send 0)) 8 6 ∷ refused (step 1 checkpoint) 4 9
     ∷ refused (step 0 (receipt 1 2)) 8 7 ∷ refused (step 1 checkpoint) 4 9 ∷ refused (step 0 (send 0)) 8 6 ∷ []) ∷ []
@@ -1195,7 +1195,7 @@ abbrev unmade6 : List Script
 unmade6 = script table195 (accepted (line 0) 8 (0 ∷ 0 ∷ []) table195 ∷ accepted (line 1) 8 (1 ∷ 4 ∷ []) table195 ∷ accepted (line 2) 8 (1 ∷ 4 ∷ []) table195
     ∷ accepted (line 10) 8 (1 ∷ 4 ∷ []) table195 ∷ accepted (line 11) 8 (1 ∷ 4 ∷ []) table195 ∷ accepted (line 4294967295) 8 (1 ∷ 4 ∷ []) table195
     ∷ accepted (failed 0) 16 (1 ∷ 4 ∷ 0 ∷ 0 ∷ []) table195 ∷ accepted (failed 1) 16 (0 ∷ 4 ∷ 1 ∷ 1 ∷ []) table195
-    ∷ accepted (failed 2) 16 (1 ∷ 4 ∷ 0 ∷ 0 ∷ []) table195 ∷ accepted (failed 3) 16 (0 ∷ 4 ∷ 1 ∷ 1 ∷ []) table195 ∷ refused (failed 4) 16 11
+    ∷ accepted (failed 2) 16 (1 ∷ 4 ∷ 2 ∷ 1 ∷ []) table195 ∷ accepted (failed 3) 16 (0 ∷ 4 ∷ 3 ∷ 2 ∷ []) table195 ∷ refused (failed 4) 16 11
     ∷ refused (failed 4294967295) 16 11 ∷ accepted (step 0 checkpoint) 4 (1 ∷ []) table196 ∷ accepted (step 0 checkpoint) 4 (2 ∷ []) table197
     ∷ accepted (step 0 (receipt 1 1)) 8 (0 ∷ 0 ∷ []) table198 ∷ accepted (step 0 (receipt 1 2)) 8 (0 ∷ 0 ∷ []) table199 ∷ refused (step 0 (send 1)) 8 9
     ∷ accepted (step 1 (receipt 0 1)) 8 (0 ∷ 0 ∷ []) table200 ∷ refused (step 1 (send 0)) 8 9 ∷ refused (step 0 (receipt 1 2)) 8 8
@@ -1217,8 +1217,8 @@ table202 = bytes (2 ∷ 6 ∷ 5 ∷ 12 ∷ 1 ∷ 1 ∷ 12 ∷ 0 ∷ 1 ∷ 12 ∷
 abbrev unmade7 : List Script
 unmade7 = script table201 (accepted (line 0) 8 (0 ∷ 0 ∷ []) table201 ∷ accepted (line 1) 8 (1 ∷ 5 ∷ []) table201 ∷ accepted (line 2) 8 (1 ∷ 5 ∷ []) table201
     ∷ accepted (line 12) 8 (1 ∷ 5 ∷ []) table201 ∷ accepted (line 13) 8 (4 ∷ 5 ∷ []) table201 ∷ accepted (line 4294967295) 8 (4 ∷ 5 ∷ []) table201
-    ∷ accepted (failed 0) 16 (4 ∷ 2 ∷ 2 ∷ 1 ∷ []) table201 ∷ accepted (failed 1) 16 (4 ∷ 2 ∷ 2 ∷ 1 ∷ []) table201
-    ∷ accepted (failed 2) 16 (4 ∷ 2 ∷ 2 ∷ 1 ∷ []) table201 ∷ accepted (failed 3) 16 (4 ∷ 2 ∷ 2 ∷ 1 ∷ []) table201 ∷ refused (failed 4) 16 11
+    ∷ accepted (failed 0) 16 (4 ∷ 2 ∷ 2 ∷ 1 ∷ []) table201 ∷ accepted (failed 1) 16 (4 ∷ 2 ∷ 3 ∷ 2 ∷ []) table201
+    ∷ accepted (failed 2) 16 (4 ∷ 2 ∷ 2 ∷ 1 ∷ []) table201 ∷ accepted (failed 3) 16 (4 ∷ 2 ∷ 3 ∷ 2 ∷ []) table201 ∷ refused (failed 4) 16 11
     ∷ refused (failed 4294967295) 16 11 ∷ refused (step 0 (receipt 1 1)) 7 4 ∷ refused (step 1 (receipt 0 0)) 8 7 ∷ refused (step 1 (receipt 0 1)) 8 9
     ∷ refused (step 1 (receipt 0 5)) 8 7 ∷ accepted (step 0 (receipt 1 1)) 8 (0 ∷ 0 ∷ []) table202 ∷ refused (step 0 (receipt 1 1)) 8 8
     ∷ refused (step 0 (receipt 1 1)) 8 8 ∷ refused (step 1 (receipt 0 4)) 8 7 ∷ refused (step 1 (receipt 0 4)) 8 7 ∷ refused (step 1 (receipt 0 1)) 8 9 ∷ [])
@@ -1248,10 +1248,10 @@ abbrev unmade8 : List Script
 unmade8 = script table203 (accepted (line 0) 12 (0 ∷ 0 ∷ 0 ∷ []) table203 ∷ accepted (line 1) 12 (1 ∷ 0 ∷ 1 ∷ []) table203
     ∷ accepted (line 2) 12 (1 ∷ 0 ∷ 1 ∷ []) table203 ∷ accepted (line 6) 12 (1 ∷ 0 ∷ 1 ∷ []) table203 ∷ accepted (line 7) 12 (1 ∷ 0 ∷ 1 ∷ []) table203
     ∷ accepted (line 4294967295) 12 (1 ∷ 0 ∷ 1 ∷ []) table203 ∷ accepted (failed 0) 20 (1 ∷ 0 ∷ 0 ∷ 4 ∷ 1 ∷ []) table203
-    ∷ accepted (failed 1) 20 (1 ∷ 0 ∷ 0 ∷ 4 ∷ 1 ∷ []) table203 ∷ accepted (failed 2) 20 (1 ∷ 0 ∷ 0 ∷ 4 ∷ 1 ∷ []) table203
-    ∷ accepted (failed 3) 20 (1 ∷ 0 ∷ 0 ∷ 4 ∷ 1 ∷ []) table203 ∷ accepted (failed 4) 20 (1 ∷ 0 ∷ 0 ∷ 4 ∷ 1 ∷ []) table203
-    ∷ accepted (failed 5) 20 (1 ∷ 0 ∷ 0 ∷ 4 ∷ 1 ∷ []) table203 ∷ accepted (failed 6) 20 (1 ∷ 0 ∷ 0 ∷ 4 ∷ 1 ∷ []) table203
-    ∷ accepted (failed 7) 20 (1 ∷ 0 ∷ 0 ∷ 4 ∷ 1 ∷ []) table203 ∷ refused (failed 8) 20 11 ∷ refused (failed 4294967295) 20 11
+    ∷ accepted (failed 1) 20 (1 ∷ 0 ∷ 0 ∷ 5 ∷ 2 ∷ []) table203 ∷ accepted (failed 2) 20 (1 ∷ 0 ∷ 0 ∷ 6 ∷ 2 ∷ []) table203
+    ∷ accepted (failed 3) 20 (1 ∷ 0 ∷ 0 ∷ 7 ∷ 3 ∷ []) table203 ∷ accepted (failed 4) 20 (1 ∷ 0 ∷ 0 ∷ 4 ∷ 1 ∷ []) table203
+    ∷ accepted (failed 5) 20 (1 ∷ 0 ∷ 0 ∷ 5 ∷ 2 ∷ []) table203 ∷ accepted (failed 6) 20 (1 ∷ 0 ∷ 0 ∷ 6 ∷ 2 ∷ []) table203
+    ∷ accepted (failed 7) 20 (1 ∷ 0 ∷ 0 ∷ 7 ∷ 3 ∷ []) table203 ∷ refused (failed 8) 20 11 ∷ refused (failed 4294967295) 20 11
     ∷ accepted (step 1 (send 2)) 8 (1 ∷ 0 ∷ []) table204 ∷ refused (step 2 (receipt 1 1)) 8 8 ∷ refused (step 2 (receipt 1 1)) 8 8
     ∷ refused (step 2 (receipt 1 1)) 8 8 ∷ accepted (step 1 (send 2)) 8 (2 ∷ 0 ∷ []) table205 ∷ accepted (step 2 (send 0)) 8 (1 ∷ 0 ∷ []) table206
     ∷ refused (step 2 (receipt 1 1)) 8 8 ∷ refused (step 2 (send 0)) 8 9 ∷ refused (step 1023 checkpoint) 4 5
@@ -1287,9 +1287,9 @@ unmade9 = script table208 (accepted (line 0) 12 (0 ∷ 0 ∷ 0 ∷ []) table208 
     ∷ accepted (line 2) 12 (3 ∷ 2 ∷ 0 ∷ []) table208 ∷ accepted (line 9) 12 (3 ∷ 2 ∷ 0 ∷ []) table208 ∷ accepted (line 10) 12 (3 ∷ 2 ∷ 0 ∷ []) table208
     ∷ accepted (line 4294967295) 12 (3 ∷ 2 ∷ 0 ∷ []) table208 ∷ accepted (failed 0) 20 (0 ∷ 2 ∷ 0 ∷ 1 ∷ 1 ∷ []) table208
     ∷ accepted (failed 1) 20 (0 ∷ 2 ∷ 0 ∷ 1 ∷ 1 ∷ []) table208 ∷ accepted (failed 2) 20 (0 ∷ 0 ∷ 0 ∷ 3 ∷ 2 ∷ []) table208
-    ∷ accepted (failed 3) 20 (0 ∷ 0 ∷ 0 ∷ 3 ∷ 2 ∷ []) table208 ∷ accepted (failed 4) 20 (0 ∷ 2 ∷ 0 ∷ 1 ∷ 1 ∷ []) table208
-    ∷ accepted (failed 5) 20 (0 ∷ 2 ∷ 0 ∷ 1 ∷ 1 ∷ []) table208 ∷ accepted (failed 6) 20 (0 ∷ 0 ∷ 0 ∷ 3 ∷ 2 ∷ []) table208
-    ∷ accepted (failed 7) 20 (0 ∷ 0 ∷ 0 ∷ 3 ∷ 2 ∷ []) table208 ∷ refused (failed 8) 20 11 ∷ refused (failed 4294967295) 20 11
+    ∷ accepted (failed 3) 20 (0 ∷ 0 ∷ 0 ∷ 3 ∷ 2 ∷ []) table208 ∷ accepted (failed 4) 20 (0 ∷ 2 ∷ 0 ∷ 5 ∷ 2 ∷ []) table208
+    ∷ accepted (failed 5) 20 (0 ∷ 2 ∷ 0 ∷ 5 ∷ 2 ∷ []) table208 ∷ accepted (failed 6) 20 (0 ∷ 0 ∷ 0 ∷ 7 ∷ 3 ∷ []) table208
+    ∷ accepted (failed 7) 20 (0 ∷ 0 ∷ 0 ∷ 7 ∷ 3 ∷ []) table208 ∷ refused (failed 8) 20 11 ∷ refused (failed 4294967295) 20 11
     ∷ refused (step 1 (receipt 2 3263113623)) 8 7 ∷ accepted (step 2 (receipt 1 2)) 8 (0 ∷ 0 ∷ []) table209
     ∷ accepted (step 2 (receipt 0 1)) 8 (0 ∷ 0 ∷ []) table210 ∷ accepted (step 2 checkpoint) 4 (1 ∷ []) table211 ∷ refused (step 0 (receipt 2 4)) 8 7
     ∷ refused (step 2 (send 1)) 8 9 ∷ refused (step 2 (send 1)) 8 9 ∷ accepted (step 1 (send 2)) 8 (3 ∷ 0 ∷ []) table212 ∷ refused (step 2 (receipt 1 2)) 8 8
@@ -1324,10 +1324,10 @@ abbrev unmade10 : List Script
 unmade10 = script table213 (accepted (line 0) 12 (0 ∷ 0 ∷ 0 ∷ []) table213 ∷ accepted (line 1) 12 (1 ∷ 4 ∷ 0 ∷ []) table213
     ∷ accepted (line 2) 12 (1 ∷ 4 ∷ 0 ∷ []) table213 ∷ accepted (line 12) 12 (1 ∷ 4 ∷ 0 ∷ []) table213 ∷ accepted (line 13) 12 (1 ∷ 4 ∷ 0 ∷ []) table213
     ∷ accepted (line 4294967295) 12 (1 ∷ 4 ∷ 0 ∷ []) table213 ∷ accepted (failed 0) 20 (1 ∷ 0 ∷ 0 ∷ 2 ∷ 1 ∷ []) table213
-    ∷ accepted (failed 1) 20 (1 ∷ 0 ∷ 0 ∷ 2 ∷ 1 ∷ []) table213 ∷ accepted (failed 2) 20 (1 ∷ 0 ∷ 0 ∷ 2 ∷ 1 ∷ []) table213
-    ∷ accepted (failed 3) 20 (1 ∷ 0 ∷ 0 ∷ 2 ∷ 1 ∷ []) table213 ∷ accepted (failed 4) 20 (1 ∷ 0 ∷ 0 ∷ 2 ∷ 1 ∷ []) table213
-    ∷ accepted (failed 5) 20 (1 ∷ 0 ∷ 0 ∷ 2 ∷ 1 ∷ []) table213 ∷ accepted (failed 6) 20 (1 ∷ 0 ∷ 0 ∷ 2 ∷ 1 ∷ []) table213
-    ∷ accepted (failed 7) 20 (1 ∷ 0 ∷ 0 ∷ 2 ∷ 1 ∷ []) table213 ∷ refused (failed 8) 20 11 ∷ refused (failed 4294967295) 20 11
+    ∷ accepted (failed 1) 20 (1 ∷ 0 ∷ 0 ∷ 3 ∷ 2 ∷ []) table213 ∷ accepted (failed 2) 20 (1 ∷ 0 ∷ 0 ∷ 2 ∷ 1 ∷ []) table213
+    ∷ accepted (failed 3) 20 (1 ∷ 0 ∷ 0 ∷ 3 ∷ 2 ∷ []) table213 ∷ accepted (failed 4) 20 (1 ∷ 0 ∷ 0 ∷ 6 ∷ 2 ∷ []) table213
+    ∷ accepted (failed 5) 20 (1 ∷ 0 ∷ 0 ∷ 7 ∷ 3 ∷ []) table213 ∷ accepted (failed 6) 20 (1 ∷ 0 ∷ 0 ∷ 6 ∷ 2 ∷ []) table213
+    ∷ accepted (failed 7) 20 (1 ∷ 0 ∷ 0 ∷ 7 ∷ 3 ∷ []) table213 ∷ refused (failed 8) 20 11 ∷ refused (failed 4294967295) 20 11
     ∷ refused (step 2 (receipt 0 1)) 8 7 ∷ accepted (step 0 (send 2)) 8 (1 ∷ 12 ∷ []) table214 ∷ refused (step 0 checkpoint) 4 10
     ∷ accepted (step 2 (send 0)) 8 (1 ∷ 0 ∷ []) table215 ∷ accepted (step 0 (receipt 2 1)) 8 (0 ∷ 0 ∷ []) table216 ∷ refused (step 1 (receipt 1 5)) 8 6
     ∷ accepted (step 2 (receipt 0 1)) 8 (12 ∷ 1 ∷ []) table217 ∷ refused (step 0 checkpoint) 4 10 ∷ refused (step 1 (send 2)) 8 9
@@ -1354,10 +1354,10 @@ abbrev unmade11 : List Script
 unmade11 = script table218 (accepted (line 0) 12 (0 ∷ 0 ∷ 0 ∷ []) table218 ∷ accepted (line 1) 12 (1 ∷ 4 ∷ 1 ∷ []) table218
     ∷ accepted (line 2) 12 (1 ∷ 4 ∷ 1 ∷ []) table218 ∷ accepted (line 12) 12 (1 ∷ 4 ∷ 1 ∷ []) table218 ∷ accepted (line 13) 12 (4 ∷ 4 ∷ 1 ∷ []) table218
     ∷ accepted (line 4294967295) 12 (4 ∷ 4 ∷ 1 ∷ []) table218 ∷ accepted (failed 0) 20 (2 ∷ 4 ∷ 0 ∷ 5 ∷ 2 ∷ []) table218
-    ∷ accepted (failed 1) 20 (2 ∷ 4 ∷ 0 ∷ 5 ∷ 2 ∷ []) table218 ∷ accepted (failed 2) 20 (2 ∷ 4 ∷ 0 ∷ 5 ∷ 2 ∷ []) table218
-    ∷ accepted (failed 3) 20 (2 ∷ 4 ∷ 0 ∷ 5 ∷ 2 ∷ []) table218 ∷ accepted (failed 4) 20 (2 ∷ 4 ∷ 0 ∷ 5 ∷ 2 ∷ []) table218
-    ∷ accepted (failed 5) 20 (2 ∷ 4 ∷ 0 ∷ 5 ∷ 2 ∷ []) table218 ∷ accepted (failed 6) 20 (2 ∷ 4 ∷ 0 ∷ 5 ∷ 2 ∷ []) table218
-    ∷ accepted (failed 7) 20 (2 ∷ 4 ∷ 0 ∷ 5 ∷ 2 ∷ []) table218 ∷ refused (failed 8) 20 11 ∷ refused (failed 4294967295) 20 11 ∷ refused (step 2 (send 2)) 8 6
+    ∷ accepted (failed 1) 20 (2 ∷ 4 ∷ 0 ∷ 5 ∷ 2 ∷ []) table218 ∷ accepted (failed 2) 20 (2 ∷ 4 ∷ 0 ∷ 7 ∷ 3 ∷ []) table218
+    ∷ accepted (failed 3) 20 (2 ∷ 4 ∷ 0 ∷ 7 ∷ 3 ∷ []) table218 ∷ accepted (failed 4) 20 (2 ∷ 4 ∷ 0 ∷ 5 ∷ 2 ∷ []) table218
+    ∷ accepted (failed 5) 20 (2 ∷ 4 ∷ 0 ∷ 5 ∷ 2 ∷ []) table218 ∷ accepted (failed 6) 20 (2 ∷ 4 ∷ 0 ∷ 7 ∷ 3 ∷ []) table218
+    ∷ accepted (failed 7) 20 (2 ∷ 4 ∷ 0 ∷ 7 ∷ 3 ∷ []) table218 ∷ refused (failed 8) 20 11 ∷ refused (failed 4294967295) 20 11 ∷ refused (step 2 (send 2)) 8 6
     ∷ refused (step 2 (receipt 1 4)) 4 4 ∷ refused (step 1 (receipt 2 1)) 8 7 ∷ accepted (step 2 checkpoint) 4 (1 ∷ []) table219
     ∷ refused (step 2 (receipt 1 4)) 8 7 ∷ refused (step 2 (receipt 1 5)) 8 7 ∷ refused (step 1 checkpoint) 4 9 ∷ refused (step 0 (send 2)) 8 9
     ∷ refused (step 2 (send 2)) 8 6 ∷ accepted (step 2 checkpoint) 4 (2 ∷ []) table220 ∷ []) ∷ []
@@ -1678,3 +1678,19 @@ resendUnmade = script table84 (resend (0 ∷ []) [] 4 0 (0 ∷ []) ∷ resend (0
 pub resendUnmade-agree : Agree resendUnmade
 unfolding freshOn stepOn lineOn failedOn resendOn layout decoded wellLaid word putWord putWords failureAnswer failureLine rounds round ones onesIn inTransit
 resendUnmade-agree = refl
+
+abbrev table229 : List ℕ
+table229 = bytes (2 ∷ 4 ∷ 1 ∷ 1 ∷ 0 ∷ 1 ∷ 1 ∷ 0 ∷ 0 ∷ 0 ∷ 0 ∷ 0 ∷ 0 ∷ 0 ∷ 0 ∷ 0 ∷ 0 ∷ 0 ∷ 0 ∷ 0 ∷ 0 ∷ 0 ∷ 0 ∷ 0 ∷ 0 ∷ 0 ∷ 0 ∷ 0 ∷ 0 ∷ 0 ∷ 0 ∷ 0 ∷ [])
+
+-- Processes that fail at their counts go back.
+abbrev saved : List Script
+saved = script (lent 128) (accepted (fresh 2 4) 0 [] table14 ∷ accepted (failed 0) 16 (0 ∷ 0 ∷ 0 ∷ 0 ∷ []) table14
+    ∷ accepted (failed 1) 16 (0 ∷ 0 ∷ 1 ∷ 1 ∷ []) table14 ∷ accepted (failed 2) 16 (0 ∷ 0 ∷ 2 ∷ 1 ∷ []) table14
+    ∷ accepted (failed 3) 16 (0 ∷ 0 ∷ 3 ∷ 2 ∷ []) table14 ∷ refused (failed 4) 16 11 ∷ refused (failed 4294967295) 16 11
+    ∷ accepted (step 0 checkpoint) 4 (1 ∷ []) table229 ∷ accepted (failed 0) 16 (1 ∷ 0 ∷ 0 ∷ 0 ∷ []) table229
+    ∷ accepted (failed 1) 16 (1 ∷ 0 ∷ 1 ∷ 1 ∷ []) table229 ∷ accepted (failed 2) 16 (1 ∷ 0 ∷ 2 ∷ 1 ∷ []) table229
+    ∷ accepted (failed 3) 16 (1 ∷ 0 ∷ 3 ∷ 2 ∷ []) table229 ∷ refused (failed 4) 16 11 ∷ refused (failed 4294967295) 16 11 ∷ []) ∷ []
+
+pub saved-agree : Agree saved
+unfolding freshOn stepOn lineOn failedOn resendOn layout decoded wellLaid word putWord putWords failureAnswer failureLine rounds round ones onesIn inTransit
+saved-agree = refl

@@ -521,6 +521,15 @@ fn resends(rng: &mut Rng, table: &[u8]) -> Script {
     script
 }
 
+/// Document 02, slip 2: failed processes at their counts, on a fresh table and after a checkpoint.
+fn just_saved() -> Script {
+    let mut script = Script::fresh(2, 4);
+    script.lines(&[]);
+    script.exact(Call::Checkpoint { p: 0 });
+    script.lines(&[]);
+    script
+}
+
 fn main() {
     let words: Vec<String> = env::args().skip(1).collect();
     match words.iter().map(String::as_str).collect::<Vec<_>>()[..] {
@@ -563,6 +572,7 @@ fn rules() -> String {
     let mut of = |tables: &[Vec<u8>]| tables.iter().map(|table| resends(&mut rng, table)).collect();
     file.group("resendMade", "Resend on the tables that the runs left.", of(&made));
     file.group("resendUnmade", "Resend on the well laid tables that no run makes.", of(&unmade));
+    file.group("saved", "Processes that fail at their counts go back.", vec![just_saved()]);
     assert_eq!(file.met, numbers(), "the numbers that are met");
     file.text
 }
