@@ -8,7 +8,7 @@ use native.Mathlib.Nat.{le-trans, pow-suc, pow-le-pow-right, div-eq-of-lt, div-l
 use native.Mathlib.Numerals.{add-one}
 use native.Mathlib.Omega.{arith}
 use native.Mathlib.Decide.{decLt}
-use lib.Dec.{ltb, eqb}
+use lib.Dec.{eqb}
 use lib.ListN.{length, getD, length-append, List·getD-append}
 use lib.Seq.{getD-append-add}
 use lib.Count.{ones}
@@ -17,8 +17,8 @@ use Rattle.xdr.specs.Words.{word, putWord, putEach, putWords}
 use Rattle.xdr.proofs.Words.{Bytes}
 use Rattle.xdr.proofs.Puts.{each-same, each-put}
 use Rattle.rules.specs.Records.{State, history}
-use Rattle.rules.specs.Table.{start, decoded}
-use Rattle.rules.specs.Lines.{maskBelow, backMask}
+use Rattle.rules.specs.Table.{decoded}
+use Rattle.rules.specs.Lines.{failed, goesBack, maskBelow, backMask}
 use Rattle.rules.specs.FailureLine.{failureLine}
 use Rattle.rules.specs.Calls.{outcome, first, tableRows, failureRows, failureAnswer, failedOn}
 use Rattle.records.proofs.Rows.{none-met, first-none, split-zero, judged-stop, judged-done, stopped, going}
@@ -28,7 +28,7 @@ use Rattle.tables.proofs.WellLaid.{decoded-count, decoded-short}
 use Rattle.lowering.specs.Lowering.{Lowered, NoneAlways, NoneLate}
 use Rattle.tops.specs.Tops.{Laid, Counted, Over}
 use Rattle.lowering.proofs.Cuts.{always-lowered, none-clean, over-line}
-use Rattle.tops.proofs.Starts.{laid, is-valid, processes, section}
+use Rattle.tops.proofs.Starts.{laid, is-valid, processes}
 
 -- ---- rows
 
@@ -86,24 +86,21 @@ line-positions t b {n} {E} L mask {P} {Q} {R} {S} O a none C d late-none =
 
 -- ---- the mask
 
--- process p is below its count
-abbrev pub below : State → List ℕ → ℕ → Bool
-below s P p = ltb (getD P p 0) (length (history s p))
+-- process p goes back
+abbrev pub goes : ℕ → State → List ℕ → ℕ → Bool
+goes mask s P p = goesBack (failed mask p) (history s p) (getD P p 0)
 
 -- what is found of the first p processes
-abbrev pub Found : State → List ℕ → ℕ → ℕ → ℕ → Type 0
-Found s P p mask bit = (mask ≡ maskBelow (below s P) p) × (bit ≡ 2 ^ p) × (mask < bit) × (bit ≤ 65536)
+abbrev pub Found : ℕ → State → List ℕ → ℕ → ℕ → ℕ → Type 0
+Found mask s P p back bit = (back ≡ maskBelow (goes mask s P) p) × (bit ≡ 2 ^ p) × (back < bit) × (bit ≤ 65536)
 
-pub found-next : (t : List ℕ) → Bytes t → {n E : ℕ} → Laid t n E → (P : List ℕ) (p : ℕ) → p < n → {at c mask bit x y : ℕ}
-    → at ≡ start E p → c ≡ word t at → Found (decoded t) P p mask bit
-    → y ≡ getD P p 0 → x ≡ cond (ltb y c) bit 0 → Found (decoded t) P (p + 1) (mask + x) (bit * 2)
-found-next t b {n} {E} L P p lt {at} {c} {mask} {bit} {x} i z (a, d, f, g) m e =
-    let s = decoded t in
-    let k : c ≡ length (history s p) = z ∙ section t b L p lt i .count in
-    let u : mask + x ≡ maskBelow (below s P) (suc p) = rw (a, e, m, k, d) in
+pub found-next : (mask : ℕ) (s : State) (P : List ℕ) (p : ℕ) → p < 16 → {back bit x y : ℕ} {down g : Bool} → Found mask s P p back bit
+    → down ≡ failed mask p → y ≡ getD P p 0 → g ≡ goesBack down (history s p) y → x ≡ cond g bit 0
+    → Found mask s P (p + 1) (back + x) (bit * 2)
+found-next mask s P p lt {back} {bit} {x} (a, d, f, g) i j k e =
+    let u : back + x ≡ maskBelow (goes mask s P) (suc p) = rw (a, e, k, i, j, d) in
     let v : bit * 2 ≡ 2 ^ suc p = rw (pow-suc 2 p, d) in
-    let few = L .3 in
-    let w = mask-lt (below s P) (suc p) in
+    let w = mask-lt (goes mask s P) (suc p) in
     let most = pow-le-pow-right {n = 2} (omega arith) {i = suc p} {j = 16} (omega arith) in
     (rw (add-one p) u, rw (add-one p) v, omega arith, omega arith)
 
@@ -113,9 +110,10 @@ pub then-two : (a : List ℕ) (n x y : ℕ) {u v w : List ℕ} → u ≡ a → v
     → w ≡ putWord (putWord a n x) (n + 1) y
 then-two a n x y e f g = rw (g, f, e)
 
-below-same : (s : State) (P Q : List ℕ) (n : ℕ) → ((p : ℕ) → p < n → getD P p 0 ≡ getD Q p 0) → maskBelow (below s P) n ≡ maskBelow (below s Q) n
-below-same s P Q zero e = refl
-below-same s P Q (suc n) e = rw (below-same s P Q n (λ p lt. e p (omega arith)), e n (omega arith))
+goes-same : (mask : ℕ) (s : State) (P Q : List ℕ) (n : ℕ) → ((p : ℕ) → p < n → getD P p 0 ≡ getD Q p 0)
+    → maskBelow (goes mask s P) n ≡ maskBelow (goes mask s Q) n
+goes-same mask s P Q zero e = refl
+goes-same mask s P Q (suc n) e = rw (goes-same mask s P Q n (λ p lt. e p (omega arith)), e n (omega arith))
 
 pub failed-refused : (t a : List ℕ) (mask : ℕ) {r : ℕ} → r ≡ first (tableRows t ++ failureRows (word t 0) mask (length a)) → r ≢ 0
     → outcome r t a ≡ failedOn t a mask
@@ -124,7 +122,7 @@ failed-refused t a mask e ne = judged-stop t a t (failureAnswer mask (decoded t)
 
 module _ (t a : List ℕ) (bt : Bytes t) (mask : ℕ) {r n E : ℕ} (e : r ≡ first (tableRows t ++ failureRows (word t 0) mask (length a))) (z : r ≡ 0)
     (i : n ≡ word t 0) (j : E ≡ word t 1) (P : List ℕ) (at : (p : ℕ) → p < n → getD P p 0 ≡ getD (failureLine mask (decoded t)) p 0)
-    {m : ℕ} (is : m ≡ maskBelow (below (decoded t) P) n) where
+    {m : ℕ} (is : m ≡ backMask mask (decoded t) P) where
   abbrev s : State
   s = decoded t
 
@@ -138,7 +136,7 @@ module _ (t a : List ℕ) (bt : Bytes t) (mask : ℕ) {r n E : ℕ} (e : r ≡ f
   size = failure-line mask s .permit .size ∙ many
 
   back : m ≡ backMask mask s cut
-  back = is ∙ below-same s P cut n at ∙ ap (maskBelow (below s cut)) (sym many)
+  back = is ∙ goes-same mask s P cut (length s) (λ p lt. at p (let m = many in omega arith))
 
   abbrev ws : List ℕ
   ws = cut ++ (m ∷ ones m ∷ [])

@@ -2,13 +2,12 @@
 ghost use mathlib.Core.Path.{_≡_};
 ghost use mathlib.Core.List.{_++_};
 ghost use Prim.Native.Nat.{ℕ, _+_, _*_, _≤_, _<_};
-ghost use lib.Dec.{ltb};
 ghost use lib.ListN.{length, getD};
 ghost use lib.Count.{ones};
 ghost use Rattle.xdr.specs.Words.{word, putWord, putEach};
 ghost use Rattle.rules.specs.Records.{history};
 ghost use Rattle.rules.specs.Table.{decoded};
-ghost use Rattle.rules.specs.Lines.{maskBelow};
+ghost use Rattle.rules.specs.Lines.{goesBack, backMask};
 ghost use Rattle.rules.specs.FailureLine.{failureLine};
 ghost use Rattle.rules.specs.Calls.{outcome, first, tableRows, failureRows, failedOn};
 ghost use Rattle.tops.specs.Tops.{Laid};
@@ -23,21 +22,30 @@ fn positions(t: &[u8], n: usize, e: usize, mask: u32) -> [u16; 16]
     cut.position
 }
 
-// The mask of the processes below their count.
-fn back(t: &[u8], n: usize, e: usize, position: [u16; 16]) -> u32
-    requires { ⌜ Laid (now t) n e ⌝ }
-    ensures { λ r. ⌜ r ≡ maskBelow (λ p. ltb (getD position p 0) (length (history (decoded (now (t .entry))) p))) n ⌝ }
+// Whether process p goes back, at this position; `down` tells whether it failed.
+fn goes_back(t: &[u8], e: usize, p: usize, down: bool, position: usize) -> bool
+    requires { ⌜ Laid (now t) (word (now t) 0) e × (p < word (now t) 0) ⌝ }
+    ensures { λ r. ⌜ r ≡ goesBack down (history (decoded (now (t .entry))) p) position ⌝ }
 {
-    let mut mask: usize = 0;
+    let c = xdr::get_usize(t, shape::start(e, p));
+    down | (position < c)
+}
+
+// The mask of the processes that go back.
+fn back(t: &[u8], n: usize, e: usize, mask: u32, position: [u16; 16]) -> u32
+    requires { ⌜ Laid (now t) n e ⌝ }
+    ensures { λ r. ⌜ r ≡ backMask mask (decoded (now (t .entry))) position ⌝ }
+{
+    let mut back: usize = 0;
     let mut bit: usize = 1;
     let mut p: usize = 0;
     while p < n {
-        let c = xdr::get_usize(t, shape::start(e, p));
-        mask = mask + shape::pick(cuts::wide(position[p]) < c, bit, 0);
+        let goes = goes_back(t, e, p, tops::bit(mask, p as u32), cuts::wide(position[p]));
+        back = back + shape::pick(goes, bit, 0);
         bit = bit * 2;
         p += 1;
     }
-    mask as u32
+    back as u32
 }
 
 // Writes the first n positions.
@@ -89,6 +97,6 @@ pub fn failed(table: &[u8], area: &mut [u8], mask: u32) -> u32
     let n = xdr::get_usize(table, 0);
     let e = xdr::get_usize(table, 1);
     let position = positions(table, n, e, mask);
-    answer(area, n, position, back(table, n, e, position));
+    answer(area, n, position, back(table, n, e, mask, position));
     0
 }

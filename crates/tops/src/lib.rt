@@ -15,7 +15,7 @@ pub struct Cut {
 }
 
 // Whether bit p of the mask is set.
-fn bit(mask: u32, p: u32) -> bool
+pub fn bit(mask: u32, p: u32) -> bool
     requires { ⌜ p < 16 ⌝ }
     ensures { λ r. ⌜ r ≡ failed mask p ⌝ }
 {

@@ -1,34 +1,29 @@
 use Prim.Native.Nat.{_-_, _≤_}
 use mathlib.Core.Path.{_≡_, refl, ap, _∙_}
 use native.Mathlib.Omega.{arith}
+use lib.ListN.{length}
 use borrow.Author.Needs.{needs}
-use Rattle.tops.proofs.Starts.{section}
+use Rattle.tops.proofs.Starts.{processes}
 use Rattle.rules.specs.Lines.{maskBelow}
 use Rattle.rules.specs.Table.{decoded}
-use Rattle.failure.proofs.FailureLine.{below, Found, found-next}
+use Rattle.failure.proofs.FailureLine.{goes, Found, found-next}
 use Rattle.failure.proofs.back.Statement.{statement}
 use Rattle.failure.proofs.back.Tie as tie
 
 abbrev Inv-loop : tie.InvT-loop
-Inv-loop t n e position mask₀ bit₀ p₀ mask bit p = Found (decoded t) position p mask bit × (p ≤ n)
+Inv-loop t n e mask position back₀ bit₀ p₀ back bit p = Found mask (decoded t) position p back bit × (p ≤ n)
 
 abbrev μ-loop : tie.MeasureT-loop
-μ-loop t n e position mask₀ bit₀ p₀ mask bit p = n - p
+μ-loop t n e mask position back₀ bit₀ p₀ back bit p = n - p
 
 loop-holds : tie.Need-loop-holds Inv-loop μ-loop
 loop-holds c = ((refl, refl, omega arith, omega arith), search needs)
 
-start-requires : tie.Need-start-requires Inv-loop μ-loop
-start-requires c κs = search needs
+cast-bit : tie.Need-cast-bit Inv-loop μ-loop
+cast-bit c = search needs
 
-get-usize-requires : tie.Need-get-usize-requires Inv-loop μ-loop
-get-usize-requires c κs =
-    let c3 = c .before .before .before in
-    let c4 = c3 .before in
-    let a = c4 .args in
-    let H = section (a .t .now) (λ i. omega (arith, c3 .shared-slice-known .given i)) (c4 .pre) (c .before .before .loop .p)
-    (c .before .loop-test .taken) (c .start .ensures .0) in
-    omega (arith, H .inside)
+bit-requires : tie.Need-bit-requires Inv-loop μ-loop
+bit-requires c κs = search needs
 
 mul-wide : tie.Need-mul-wide Inv-loop μ-loop
 mul-wide c = search needs
@@ -39,20 +34,22 @@ array-read-wide c = search needs
 wide-requires : tie.Need-wide-requires Inv-loop μ-loop
 wide-requires c κs = search needs
 
+goes-back-requires : tie.Need-goes-back-requires Inv-loop μ-loop
+goes-back-requires c κs =
+    let L = c .before .before .before .before .before .pre in
+    ((L .0, refl, L .2, omega arith, L .4), omega arith)
+
 pick-requires : tie.Need-pick-requires Inv-loop μ-loop
 pick-requires c κs = search needs
 
-add-mask : tie.Need-add-mask Inv-loop μ-loop
-add-mask c =
+add-back : tie.Need-add-back Inv-loop μ-loop
+add-back c =
     let c3 = c .before .before .before in
-    let c4 = c3 .before in
-    let c5 = c4 .before in
-    let c6 = c5 .before in
-    let c7 = c6 .before in
-    let a = c7 .args in
+    let c5 = c3 .before .before in
+    let a = c5 .before .before .args in
     let s = c5 .loop in
-    let F = found-next (a .t .now) (λ i. omega (arith, c6 .shared-slice-known .given i)) (c7 .pre) (a .t4) (s .p) (c4 .loop-test .taken)
-    (c3 .start .ensures .0) (c .before .before .get-usize .ensures .0) (s .inv .0) (c .before .wide .ensures) (c .pick .ensures) in
+    let F = found-next (a .mask) (decoded (a .t .now)) (a .t5) (s .p) (omega arith) (s .inv .0) (c3 .bit .ensures)
+    (c .before .before .wide .ensures) (c .before .goes-back .ensures) (c .pick .ensures) in
     omega (arith, F .2, F .3)
 
 mul-bit : tie.Need-mul-bit Inv-loop μ-loop
@@ -67,14 +64,11 @@ loop-less c = search needs
 loop-again : tie.Need-loop-again Inv-loop μ-loop
 loop-again c =
     let c3 = c .before .before .before in
-    let c4 = c3 .before in
-    let c5 = c4 .before in
-    let c6 = c5 .before in
-    let c7 = c6 .before in
-    let a = c7 .args in
+    let c5 = c3 .before .before in
+    let a = c5 .before .before .args in
     let s = c5 .loop in (
-      found-next (a .t .now) (λ i. omega (arith, c6 .shared-slice-known .given i)) (c7 .pre) (a .t4) (s .p) (c4 .loop-test .taken)
-          (c3 .start .ensures .0) (c .before .before .get-usize .ensures .0) (s .inv .0) (c .before .wide .ensures) (c .pick .ensures),
+      found-next (a .mask) (decoded (a .t .now)) (a .t5) (s .p) (omega arith) (s .inv .0) (c3 .bit .ensures)
+          (c .before .before .wide .ensures) (c .before .goes-back .ensures) (c .pick .ensures),
       omega arith,
     )
 
@@ -86,8 +80,9 @@ returns c =
     let c3 = c .before .before .before in
     let a = c3 .args in
     let s = c .before .loop in
-    let e : s .p ≡ a .n = omega arith in
-    s .inv .0 .0 ∙ ap (maskBelow (below (decoded (a .t .now)) (a .t4))) e
+    let n = processes (a .t .now) (λ i. omega (arith, c .before .before .shared-slice-known .given i)) (c3 .pre) in
+    let e : s .p ≡ length (decoded (a .t .now)) = omega arith in
+    s .inv .0 .0 ∙ ap (maskBelow (goes (a .mask) (decoded (a .t .now)) (a .t5))) e
 
 pub back-spec : {M : Type 1} → statement M
 back-spec =
@@ -96,13 +91,14 @@ back-spec =
     Inv-loop
     μ-loop
     loop-holds
-    start-requires
-    get-usize-requires
+    cast-bit
+    bit-requires
     mul-wide
     array-read-wide
     wide-requires
+    goes-back-requires
     pick-requires
-    add-mask
+    add-back
     mul-bit
     add-p
     loop-less
