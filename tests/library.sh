@@ -126,7 +126,8 @@ wrong_hosts() {
         host_that "sends again what was unsent" "$cut" "p < COLLECTORS ? position[p] : $cut" &&
         host_that "looks at all receipts" "$again" "if (!m->received) $again" &&
         host_that "asks for what is in transit at the running states" "$cut" 'position[p]' &&
-        host_that "reloads the failed alone" 'if (failed >> p & 1 || at < position[p])' 'if (failed >> p & 1)' &&
+        host_that "reloads the failed alone" 'back = ckpt_word(area, N);' 'back = failed;' &&
+        host_that "reloads those below their count alone" 'back >> p & 1' '(back >> p & 1 && at < position[p])' &&
         host_that "saves a state with the message in it" 'save(m->to);' \
             'running[m->to].pulses[m->flat] += m->pulses; save(m->to); running[m->to].pulses[m->flat] -= m->pulses;'
 }

@@ -4,6 +4,11 @@ use cases::records;
 use cases::table::{is_checkpoint, is_send, Record, A, B, KIND, RECEIPT};
 use std::fmt;
 
+/// Whether bit p of the mask is set.
+pub fn failed(mask: u32, p: usize) -> bool {
+    mask >> p & 1 == 1
+}
+
 /// A receipt: its place and that of its send, counted from 1, and the sender.
 struct Received {
     place: u32,
@@ -43,20 +48,20 @@ impl History {
     /// "A failed process may be at 0 or a checkpoint; another may also be at c."
     fn permits(&self, mask: u32, p: usize, position: u32) -> bool {
         let (own, t) = (&self.sections[p], position as usize);
-        let failed = mask >> p & 1 == 1;
-        t == 0 || is_checkpoint(&own[t - 1]) || !failed && t == own.len()
+        t == 0 || is_checkpoint(&own[t - 1]) || !failed(mask, p) && t == own.len()
     }
 
     fn latest_permitted(&self, mask: u32, p: usize, top: u32) -> u32 {
         (0..=top).rev().find(|&t| self.permits(mask, p, t)).unwrap()
     }
 
-    /// The cut, then the mask of the processes whose position is below their count, and how many they are.
-    pub fn answer(&self, cut: &[u32]) -> Vec<u32> {
+    /// The cut, then the mask of the processes that have failed or whose position is below their count, and how many
+    /// they are.
+    pub fn answer(&self, mask: u32, cut: &[u32]) -> Vec<u32> {
         let counts = self.counts();
-        let back: Vec<usize> = (0..cut.len()).filter(|&p| cut[p] < counts[p]).collect();
-        let mask = back.iter().map(|p| 1 << p).sum();
-        [cut, &[mask, back.len() as u32]].concat()
+        let back: Vec<usize> = (0..cut.len()).filter(|&p| failed(mask, p) || cut[p] < counts[p]).collect();
+        let bits = back.iter().map(|p| 1 << p).sum();
+        [cut, &[bits, back.len() as u32]].concat()
     }
 
     /// The failure line by lowering the latest permitted cut: in a round each process that has an orphan, 0 first, goes

@@ -81,6 +81,23 @@ fn the_text_listing() {
     );
 }
 
+/// Document 02, slip 2: the mask and the count after a failure have every process that failed, at its count too.
+#[test]
+fn a_failed_process_always_goes_back() {
+    let mut pair = Pair::fresh(2, 4, ORIGIN);
+    accept(
+        &mut pair,
+        &[
+            (Failed { mask: 3 }, &[0, 0, 3, 2]),
+            (Checkpoint { p: 0 }, &[1]),
+            (Failed { mask: 1 }, &[1, 0, 1, 1]),
+            (Failed { mask: 2 }, &[1, 0, 2, 1]),
+            (Failed { mask: 3 }, &[1, 0, 3, 2]),
+            (Failed { mask: 0 }, &[1, 0, 0, 0]),
+        ],
+    );
+}
+
 #[test]
 fn nine_when_too_few_records_are_free() {
     let mut pair = Pair::fresh(2, 2, ORIGIN);
@@ -122,7 +139,7 @@ fn the_three_lengths() {
         assert_eq!(pair.call(Fresh { n, e }, &[]).0, 0);
         assert_eq!(pair.table(), from_words(&zeros));
         assert_eq!(pair.exact(Line { number: MAX }), (0, vec![0; n as usize]));
-        assert_eq!(pair.exact(Failed { mask: 1 }), (0, vec![0; n as usize + 2]));
+        assert_eq!(pair.exact(Failed { mask: 0 }), (0, vec![0; n as usize + 2]));
         for other in [length - 1, length + 1] {
             assert_eq!(Pair::new(&vec![0xEE; other], ORIGIN).call(Fresh { n, e }, &[]).0, 2);
             // The other calls too, on what would be a fresh table.

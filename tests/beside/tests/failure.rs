@@ -1,6 +1,6 @@
 //! Failure lines. Each is asked for beside the reference engine and compared with `History::lowered`, those of small
 //! tables also with all permitted cuts.
-use beside::cuts::History;
+use beside::cuts::{failed, History};
 use beside::{on_proved, seed, Origin, Pair};
 use cases::cut::tuples;
 use cases::table::{checkpoint, forced, receipt, send, Record, A, B, KIND, RECEIPT, SEND};
@@ -20,6 +20,8 @@ struct Tally {
     most: u32,
     /// Lines that leave a process between 0 and its count.
     between: u64,
+    /// Lines that leave a process at its count that failed, and so goes back.
+    reloaded: u64,
 }
 
 impl Tally {
@@ -29,25 +31,24 @@ impl Tally {
         self.spread += u64::from(answer[n] & !mask != 0);
         self.chains += u64::from(rounds > 1);
         self.most = self.most.max(rounds);
-        let between = |(&at, count): (&u32, u32)| 0 < at && at < count;
-        self.between += u64::from(answer.iter().zip(history.counts()).any(between));
+        let counts = history.counts();
+        self.between += u64::from((0..n).any(|p| 0 < answer[p] && answer[p] < counts[p]));
+        self.reloaded += u64::from((0..n).any(|p| failed(mask, p) && answer[p] == counts[p]));
     }
 
     /// No sort of line is missing.
     fn assert_varied(&self) {
-        let least = self.spread.min(self.chains).min(self.between);
+        let least = self.spread.min(self.chains).min(self.between).min(self.reloaded);
         assert!(self.lines > 0 && least * 500 >= self.lines, "{self}");
     }
 }
 
 impl fmt::Display for Tally {
     fn fmt(&self, f: &mut fmt::Formatter) -> fmt::Result {
-        let Tally { tables, lines, spread, chains, most, between } = self;
+        let Tally { tables, lines, spread, chains, most, between, reloaded } = self;
         write!(f, "{lines} lines on {tables} tables, {spread} take back a process that didn't fail, ")?;
-        write!(
-            f,
-            "{chains} fall more than one round, at most {most}, {between} leave one between 0 and its count"
-        )
+        write!(f, "{chains} fall more than one round, at most {most}, ")?;
+        write!(f, "{between} leave one between 0 and its count, {reloaded} leave a failed one at its count")
     }
 }
 
@@ -57,7 +58,7 @@ fn compare(pair: &mut Pair, history: &History, mask: u32, tally: &mut Tally) -> 
     let (returned, answer) = pair.exact(Failed { mask });
     assert_eq!(
         (returned, &answer),
-        (0, &history.answer(&cut)),
+        (0, &history.answer(mask, &cut)),
         "mask {mask} on {history}: {}",
         pair.origin()
     );
@@ -179,7 +180,7 @@ fn compare_with_all_cuts(pair: &mut Pair, history: &History, tally: &mut Tally) 
     let clean = history.clean_cuts();
     for mask in 0..1 << history.sections.len() {
         let answer = compare(pair, history, mask, tally);
-        let latest = history.answer(&history.latest(&clean, mask));
+        let latest = history.answer(mask, &history.latest(&clean, mask));
         assert_eq!(answer, latest, "mask {mask} on {history}: {}", pair.origin());
     }
 }
@@ -327,9 +328,8 @@ fn eleven_for_a_bit_at_n_or_above() {
         let mut pair = Pair::new(&table, Origin { test: "number 11", seed: 0, case: n.into() });
         let all = (1u32 << n) - 1;
         for mask in (0..n).map(|p| 1 << p).chain([0, all]) {
-            let back = if n == 1 { 0 } else { mask };
-            let cut = (0..n).map(|p| count - (back >> p & 1));
-            let answer = cut.chain([back, back.count_ones()]).collect();
+            let cut = (0..n).map(|p| if failed(mask, p as usize) { 1 } else { count });
+            let answer = cut.chain([mask, mask.count_ones()]).collect();
             assert_eq!(pair.exact(Failed { mask }), (0, answer), "n = {n}, mask {mask:#x}");
         }
         let beyond = (n..32).flat_map(|bit| [0, 1, all].map(|below| 1 << bit | below));

@@ -708,7 +708,7 @@ fn numbers_up_to_four_digits_are_written_in_decimal() {
     }
     assert_eq!(number, 2026);
     add(String::from("failed,0,,"), &[256, 256, 256, 256, 256, 256, 256, 255, 0, 0]);
-    add(String::from("failed,128,,"), &[256, 256, 256, 256, 256, 256, 256, 255, 0, 0]);
+    add(String::from("failed,128,,"), &[256, 256, 256, 256, 256, 256, 256, 255, 128, 1]);
     add(String::from("failed,1,,"), &[255, 1, 1, 1, 1, 1, 1, 1, 255, 8]);
     add(String::from("line,1000,,"), &[256, 256, 256, 241, 1, 1, 1, 1]);
     check(&ended(&input), &ended(&answers));
