@@ -80,8 +80,16 @@ static void put_word(uint8_t *area, size_t i, uint32_t word) {
 
 static bool post(uint32_t from, uint32_t to, uint32_t flat, uint32_t pulses);
 
-/* Goes on from the failure line of the mask: with its states, on a fresh table, and with what was in transit sent again. The line
-   of mask 0 has all running states, so nobody goes back.
+/* A process that fails loses what it remembers. */
+static void fail(uint32_t failed) {
+    for (uint32_t p = 0; p < N; p++) {
+        if (failed >> p & 1) memset(&running[p], 0, sizeof running[p]);
+    }
+}
+
+/* Goes on from the failure line of the mask: with its states, on a fresh table, and with what was in transit sent again. The
+   answer's mask alone tells which processes are reloaded: those that failed, at their last save too, and those below their count. The
+   line of mask 0 has all running states, so nobody goes back.
 
    A process may go back to the state that the table began from. Its position is 0, before the sends of what was sent again, and yet
    this state had sent these messages already: it owes them still. The engine can't know that and would take them for unsent. So it
@@ -90,12 +98,14 @@ static void restart(uint32_t failed) {
     static uint8_t list[CKPT_RESEND_MOST(N, E)];
     static struct message again[N * E];
     uint8_t area[CKPT_FAILED_LENGTH(N)], cut[CKPT_LINE_LENGTH(N)];
+    bool own = failed && ignore_lines;
 
     must(ckpt_failed(table, sizeof table, area, sizeof area, failed));
+    uint32_t back = ckpt_word(area, N);
     seen.back += ckpt_word(area, N + 1);
     for (uint32_t p = 0; p < N; p++) {
-        uint32_t at = failed && ignore_lines ? last_save[p] : ckpt_word(area, p);
-        if (failed >> p & 1 || at < position[p]) running[p] = saved[p][at];
+        uint32_t at = own ? last_save[p] : ckpt_word(area, p);
+        if (own || back >> p & 1) running[p] = saved[p][at];
         put_word(cut, p, at < owed[p] ? owed[p] : at);
     }
     must(ckpt_resend(table, sizeof table, cut, sizeof cut, list, sizeof list));
@@ -244,7 +254,9 @@ int main(int argc, char **argv) {
     begin();
     for (int restarts = 1; restarts <= RESTARTS; restarts++) {
         for (uint32_t turns = below(150); turns > 0; turns--) turn();
-        restart(1u << below(N) | 1u << below(N)); /* one process fails, or two */
+        uint32_t failed = 1u << below(N) | 1u << below(N); /* one process, or two */
+        fail(failed);
+        restart(failed);
         settle();
         if (!ledgers_equal_registers()) {
             printf("ledgers differ from registers after restart %d\n", restarts);

@@ -95,7 +95,8 @@ uint32_t ckpt_line(const uint8_t *table, size_t table_len, uint8_t *area, size_t
 /* Failure line: bit p of the mask, counted from the lowest as 0, is set where process p failed. A failed process may be at 0, its
    state when the table was fresh, or at a checkpoint; another may also be at its count of records, its running state. The area gets
    the latest of these positions at which no message is received but unsent, one for each process, then the mask of the processes
-   whose position is below their count, which go back, then how many they are. The table stays as it is.
+   that go back, which are those that failed and those whose position is below their count, then how many they are. The host reloads
+   the processes of this mask, and no other. The table stays as it is.
    Returns CKPT_BAD_TABLE_LENGTH, CKPT_BAD_DIMENSIONS, CKPT_NOT_WELL_LAID, CKPT_BAD_AREA_LENGTH, CKPT_BAD_MASK, CKPT_OK. */
 uint32_t ckpt_failed(const uint8_t *table, size_t table_len, uint8_t *area, size_t area_len, uint32_t mask);
 
