@@ -1,11 +1,12 @@
 -- Document 01, "A worked controller".
 use mathlib.Core.Path.{_≡_, refl}
+use mathlib.Core.Bool.{true}
 use mathlib.Core.List.{List, [], _∷_, map}
 use Prim.Native.Nat.{ℕ, _*_}
 use lib.ListN.{replicate}
 use lib.Count.{ones, onesIn}
 use Rattle.xdr.specs.Words.{word, putWord, putWords, bytes}
-use Rattle.rules.specs.Compared.{same-equal, sames-equal}
+use Rattle.rules.specs.Compared.{sames, same-equal, sames-equal}
 use Rattle.rules.specs.Table.{size, layout, decoded, wellLaid}
 use Rattle.rules.specs.Steps.{Call, checkpoint, send, receipt}
 use Rattle.rules.specs.FailureLine.{round, rounds, failureLine}
@@ -60,13 +61,26 @@ worked-table = same-equal (tableAfter (freshTable 3 6) workedCalls) worked refl
 abbrev pub told : Outcome → List ℕ
 told o = o .returned ∷ answerWords o
 
--- a case: what the rules give, and what document 01 says
+-- a case: what the rules give, and what the documents say
 pub record Case : Type 0 where
   pub given : List ℕ
   pub stated : List ℕ
 
 abbrev pub case : Outcome → List ℕ → Case
 case o ws = record { given = told o; stated = ws }
+
+abbrev allGiven : List Case → List (List ℕ)
+allGiven cs = map (λ (c : Case). c .given) cs
+
+abbrev allStated : List Case → List (List ℕ)
+allStated cs = map (λ (c : Case). c .stated) cs
+
+-- the rules give what the documents say, case by case
+abbrev pub AsStated : List Case → Type 0
+AsStated cs = allGiven cs ≡ allStated cs
+
+pub as-stated : (cs : List Case) → sames (allGiven cs) (allStated cs) ≡ true → AsStated cs
+as-stated cs e = sames-equal (allGiven cs) (allStated cs) e
 
 -- P1 to P3, lines 0, 1 and 2; P4 to P8, masks 0, 1, 2, 4 and 8; P9 and P10, two receipts
 abbrev pub cases : List Case
@@ -83,9 +97,9 @@ cases =
     ∷ case (stepOn worked (area 2) 1 (receipt 0 2)) (7 ∷ [])
     ∷ []
 
-pub worked-cases : map (λ (c : Case). c .given) cases ≡ map (λ (c : Case). c .stated) cases
+pub worked-cases : AsStated cases
 unfolding freshOn stepOn lineOn failedOn layout decoded wellLaid word putWord putWords failureAnswer failureLine rounds round ones onesIn
-worked-cases = sames-equal (map (λ (c : Case). c .given) cases) (map (λ (c : Case). c .stated) cases) refl
+worked-cases = as-stated cases refl
 
 -- the worked calls' answers
 abbrev workedAnswers : List (List ℕ)
@@ -108,17 +122,17 @@ worked-answers = sames-equal (map told (outcomesOn (freshTable 3 6) workedCalls)
 abbrev justSaved : List ℕ
 justSaved = tableAfter (freshTable 2 4) (exact 0 checkpoint ∷ [])
 
-abbrev pub justSavedCases : List Case
-justSavedCases =
+abbrev savedCases : List Case
+savedCases =
     case (failedOn justSaved (area 4) 1) (0 ∷ 1 ∷ 0 ∷ 1 ∷ 1 ∷ [])
     ∷ case (failedOn justSaved (area 4) 2) (0 ∷ 1 ∷ 0 ∷ 2 ∷ 1 ∷ [])
     ∷ case (failedOn justSaved (area 4) 3) (0 ∷ 1 ∷ 0 ∷ 3 ∷ 2 ∷ [])
     ∷ case (failedOn justSaved (area 4) 0) (0 ∷ 1 ∷ 0 ∷ 0 ∷ 0 ∷ [])
     ∷ []
 
-pub just-saved : map (λ (c : Case). c .given) justSavedCases ≡ map (λ (c : Case). c .stated) justSavedCases
+pub just-saved : AsStated savedCases
 unfolding freshOn stepOn failedOn layout decoded wellLaid word putWord putWords failureAnswer failureLine rounds round ones onesIn
-just-saved = sames-equal (map (λ (c : Case). c .given) justSavedCases) (map (λ (c : Case). c .stated) justSavedCases) refl
+just-saved = as-stated savedCases refl
 
 -- Receipts that carry the receiver's own number force nothing: 0 carries 1 to 1, which has a checkpoint of its own numbered 1.
 pub equal-number : map told (outcomesOn (freshTable 2 4) (exact 0 checkpoint ∷ exact 1 checkpoint ∷ exact 0 (send 1) ∷ exact 1 (receipt 0 1) ∷ []))

@@ -1,12 +1,11 @@
 -- Document 02, slip 1, worked: what is to be sent again.
-use mathlib.Core.Path.{_≡_, refl}
-use mathlib.Core.List.{List, [], _∷_, map}
+use mathlib.Core.Path.{refl}
+use mathlib.Core.List.{List, [], _∷_}
 use Prim.Native.Nat.{ℕ}
 use Rattle.xdr.specs.Words.{word, putWord, putWords, bytes}
-use Rattle.rules.specs.Compared.{sames-equal}
 use Rattle.rules.specs.Table.{decoded, wellLaid}
 use Rattle.rules.specs.Resend.{inTransit, resendOn}
-use Rattle.rules.specs.Worked.{Case, case, area, worked}
+use Rattle.rules.specs.Worked.{Case, case, AsStated, as-stated, area, worked}
 
 -- No run makes this table of three processes: 0 sends to 2, 1 sends to 0 and has a receipt of what 0 sent to 2.
 abbrev strayReceipt : List ℕ
@@ -34,6 +33,6 @@ resendCases =
     ∷ case (resendOn strayReceipt (bytes (1 ∷ 2 ∷ 0 ∷ [])) (area 7)) (0 ∷ 2 ∷ 0 ∷ 1 ∷ 2 ∷ 1 ∷ 1 ∷ 0 ∷ [])
     ∷ []
 
-pub resend-cases : map (λ (c : Case). c .given) resendCases ≡ map (λ (c : Case). c .stated) resendCases
+pub resend-cases : AsStated resendCases
 unfolding resendOn inTransit decoded wellLaid word putWord putWords
-resend-cases = sames-equal (map (λ (c : Case). c .given) resendCases) (map (λ (c : Case). c .stated) resendCases) refl
+resend-cases = as-stated resendCases refl
