@@ -139,7 +139,8 @@ fn the_three_lengths() {
         assert_eq!(pair.call(Fresh { n, e }, &[]).0, 0);
         assert_eq!(pair.table(), from_words(&zeros));
         assert_eq!(pair.exact(Line { number: MAX }), (0, vec![0; n as usize]));
-        assert_eq!(pair.exact(Failed { mask: 0 }), (0, vec![0; n as usize + 2]));
+        let failed = [vec![0; n as usize], vec![1, 1]].concat();
+        assert_eq!(pair.exact(Failed { mask: 1 }), (0, failed));
         for other in [length - 1, length + 1] {
             assert_eq!(Pair::new(&vec![0xEE; other], ORIGIN).call(Fresh { n, e }, &[]).0, 2);
             // The other calls too, on what would be a fresh table.

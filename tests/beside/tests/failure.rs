@@ -190,6 +190,24 @@ fn the_latest_of_all_permitted_cuts() {
     on_small_tables("all cuts", (3, 5), compare_with_all_cuts);
 }
 
+/// On a table made by calls every receipt has its send, so without a failure all stay at their counts.
+#[test]
+fn nobody_goes_back_when_nobody_failed() {
+    let (seed, mut receipts) = (seed(), 0);
+    for case in 0..4_000 {
+        let origin = Origin { test: "nobody failed", seed, case };
+        let mut rng = origin.rng();
+        let (n, e) = (1 + rng.below(16), 1 + rng.below(12));
+        let table = made(&mut rng, n, e);
+        let (mut pair, history) = (Pair::new(&table, origin), History::of(&table));
+        let answer = [history.counts(), vec![0, 0]].concat();
+        assert_eq!(pair.exact(Failed { mask: 0 }), (0, answer), "{history}: {}", pair.origin());
+        receipts += history.sections.iter().flatten().filter(|r| r[KIND] == RECEIPT).count();
+    }
+    println!("nobody failed: CKPT_SEED={seed}, {receipts} receipts");
+    assert!(receipts > 4_000, "{receipts}");
+}
+
 /// The sections of process p that have one record more than this one. Numbers of checkpoints fall.
 fn longer(n: u32, e: u32, p: u32, section: &[Record]) -> Vec<Vec<Record>> {
     let number = n * e - section.len() as u32;
