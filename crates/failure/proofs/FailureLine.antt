@@ -18,7 +18,7 @@ use Rattle.xdr.proofs.Words.{Bytes}
 use Rattle.xdr.proofs.Puts.{each-same, each-put}
 use Rattle.rules.specs.Records.{State, history}
 use Rattle.rules.specs.Table.{decoded}
-use Rattle.rules.specs.Lines.{failed, goesBack, maskBelow, backMask}
+use Rattle.rules.specs.Lines.{failed, goesBack, goesBackAt, maskBelow, backMask}
 use Rattle.rules.specs.FailureLine.{failureLine}
 use Rattle.rules.specs.Calls.{outcome, first, tableRows, failureRows, failureAnswer, failedOn}
 use Rattle.records.proofs.Rows.{none-met, first-none, split-zero, judged-stop, judged-done, stopped, going}
@@ -86,21 +86,17 @@ line-positions t b {n} {E} L mask {P} {Q} {R} {S} O a none C d late-none =
 
 -- ---- the mask
 
--- process p goes back
-abbrev pub goes : ℕ → State → List ℕ → ℕ → Bool
-goes mask s P p = goesBack (failed mask p) (history s p) (getD P p 0)
-
 -- what is found of the first p processes
 abbrev pub Found : ℕ → State → List ℕ → ℕ → ℕ → ℕ → Type 0
-Found mask s P p back bit = (back ≡ maskBelow (goes mask s P) p) × (bit ≡ 2 ^ p) × (back < bit) × (bit ≤ 65536)
+Found mask s P p back bit = (back ≡ maskBelow (goesBackAt mask s P) p) × (bit ≡ 2 ^ p) × (back < bit) × (bit ≤ 65536)
 
 pub found-next : (mask : ℕ) (s : State) (P : List ℕ) (p : ℕ) → p < 16 → {back bit x y : ℕ} {down g : Bool} → Found mask s P p back bit
     → down ≡ failed mask p → y ≡ getD P p 0 → g ≡ goesBack down (history s p) y → x ≡ cond g bit 0
     → Found mask s P (p + 1) (back + x) (bit * 2)
 found-next mask s P p lt {back} {bit} {x} (a, d, f, g) i j k e =
-    let u : back + x ≡ maskBelow (goes mask s P) (suc p) = rw (a, e, k, i, j, d) in
+    let u : back + x ≡ maskBelow (goesBackAt mask s P) (suc p) = rw (a, e, k, i, j, d) in
     let v : bit * 2 ≡ 2 ^ suc p = rw (pow-suc 2 p, d) in
-    let w = mask-lt (goes mask s P) (suc p) in
+    let w = mask-lt (goesBackAt mask s P) (suc p) in
     let most = pow-le-pow-right {n = 2} (omega arith) {i = suc p} {j = 16} (omega arith) in
     (rw (add-one p) u, rw (add-one p) v, omega arith, omega arith)
 
@@ -111,7 +107,7 @@ pub then-two : (a : List ℕ) (n x y : ℕ) {u v w : List ℕ} → u ≡ a → v
 then-two a n x y e f g = rw (g, f, e)
 
 goes-same : (mask : ℕ) (s : State) (P Q : List ℕ) (n : ℕ) → ((p : ℕ) → p < n → getD P p 0 ≡ getD Q p 0)
-    → maskBelow (goes mask s P) n ≡ maskBelow (goes mask s Q) n
+    → maskBelow (goesBackAt mask s P) n ≡ maskBelow (goesBackAt mask s Q) n
 goes-same mask s P Q zero e = refl
 goes-same mask s P Q (suc n) e = rw (goes-same mask s P Q n (λ p lt. e p (omega arith)), e n (omega arith))
 

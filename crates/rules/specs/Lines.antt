@@ -98,6 +98,10 @@ pub record IsFailureLine (mask : ℕ) (s : State) (cut : List ℕ) : Type 0 wher
 abbrev pub goesBack : Bool → History → ℕ → Bool
 goesBack down h t = down || ltb t (length h)
 
+-- process p goes back, at this cut, where those of the mask failed
+abbrev pub goesBackAt : ℕ → State → List ℕ → ℕ → Bool
+goesBackAt mask s cut p = goesBack (failed mask p) (history s p) (getD cut p 0)
+
 -- the mask that has the bits below p for which a test holds
 abbrev pub maskBelow : (ℕ → Bool) → ℕ → ℕ
 maskBelow f zero = 0
@@ -105,4 +109,4 @@ maskBelow f (suc p) = maskBelow f p + cond (f p) (2 ^ p) 0
 
 -- the mask of the processes that go back
 abbrev pub backMask : ℕ → State → List ℕ → ℕ
-backMask mask s cut = maskBelow (λ p. goesBack (failed mask p) (history s p) (getD cut p 0)) (length s)
+backMask mask s cut = maskBelow (goesBackAt mask s cut) (length s)

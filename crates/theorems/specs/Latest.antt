@@ -6,18 +6,18 @@ use mathlib.Core.Path.{_≡_}
 use mathlib.Core.Bool.{cond}
 use mathlib.Core.List.{List, [], _∷_, _++_}
 use Prim.Native.Nat.{ℕ, zero, suc, _+_, _*_, _^_, _<_}
-use lib.ListN.{length, getD}
+use lib.ListN.{length}
 use lib.Count.{ones}
 use Rattle.xdr.specs.Words.{word, bytes}
-use Rattle.rules.specs.Records.{State, history}
+use Rattle.rules.specs.Records.{State}
 use Rattle.rules.specs.Table.{decoded}
-use Rattle.rules.specs.Lines.{failed, IsFailureLine, goesBack}
+use Rattle.rules.specs.Lines.{failed, IsFailureLine, goesBackAt}
 use Rattle.rules.specs.Calls.{outcome, failedOn, first, tableRows}
 
 -- how many of the first p processes go back, which a process does "when it has failed or its position is below its count"
 abbrev pub howMany : ℕ → State → List ℕ → ℕ → ℕ
 howMany mask s cut zero = 0
-howMany mask s cut (suc p) = howMany mask s cut p + cond (goesBack (failed mask p) (history s p) (getD cut p 0)) 1 0
+howMany mask s cut (suc p) = howMany mask s cut p + cond (goesBackAt mask s cut p) 1 0
 
 -- What the exported call leaves: s are the table's records, n its processes.
 pub record Answered (t a : List ℕ) (mask : ℕ) (s : State) (n : ℕ) : Type 0 where
@@ -33,7 +33,7 @@ pub record Answered (t a : List ℕ) (mask : ℕ) (s : State) (n : ℕ) : Type 0
   pub only : (other : List ℕ) → IsFailureLine mask s other → other ≡ cut
   -- the mask has exactly the bits of the processes that failed or are below their count, none at n or above, and the count of its ones
   -- is how many they are
-  pub bits : (p : ℕ) → p < n → failed back p ≡ goesBack (failed mask p) (history s p) (getD cut p 0)
+  pub bits : (p : ℕ) → p < n → failed back p ≡ goesBackAt mask s cut p
   pub within : back < 2 ^ n
   pub count : ones back ≡ howMany mask s cut n
 

@@ -4,9 +4,9 @@ use native.Mathlib.Omega.{arith}
 use lib.ListN.{length}
 use borrow.Author.Needs.{needs}
 use Rattle.tops.proofs.Starts.{processes}
-use Rattle.rules.specs.Lines.{maskBelow}
+use Rattle.rules.specs.Lines.{goesBackAt, maskBelow}
 use Rattle.rules.specs.Table.{decoded}
-use Rattle.failure.proofs.FailureLine.{goes, Found, found-next}
+use Rattle.failure.proofs.FailureLine.{Found, found-next}
 use Rattle.failure.proofs.back.Statement.{statement}
 use Rattle.failure.proofs.back.Tie as tie
 
@@ -82,7 +82,7 @@ returns c =
     let s = c .before .loop in
     let n = processes (a .t .now) (λ i. omega (arith, c .before .before .shared-slice-known .given i)) (c3 .pre) in
     let e : s .p ≡ length (decoded (a .t .now)) = omega arith in
-    s .inv .0 .0 ∙ ap (maskBelow (goes (a .mask) (decoded (a .t .now)) (a .t5))) e
+    s .inv .0 .0 ∙ ap (maskBelow (goesBackAt (a .mask) (decoded (a .t .now)) (a .t5))) e
 
 pub back-spec : {M : Type 1} → statement M
 back-spec =
