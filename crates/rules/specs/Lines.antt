@@ -24,7 +24,7 @@ abbrev pub orphan : State → List ℕ → ℕ → Event → Bool
 orphan s cut p (basic m) = false
 orphan s cut p (forced m) = false
 orphan s cut p (sent q) = false
-orphan s cut p (received q k) = not (hasSend (part s cut q) p k)
+orphan s cut p (received q k c) = not (hasSend (part s cut q) p k)
 
 -- no receipt inside the cut is an orphan
 abbrev pub NoOrphan : State → List ℕ → Type 0
@@ -37,7 +37,7 @@ abbrev pub atLeast : ℕ → Event → Bool
 atLeast N (basic m) = leb N m
 atLeast N (forced m) = leb N m
 atLeast N (sent q) = false
-atLeast N (received q k) = false
+atLeast N (received q k c) = false
 
 -- the first of two positions that is there
 abbrev pub orElse : Option ℕ → Option ℕ → Option ℕ
@@ -70,7 +70,7 @@ abbrev pub isCheckpoint : Event → Bool
 isCheckpoint (basic m) = true
 isCheckpoint (forced m) = true
 isCheckpoint (sent q) = false
-isCheckpoint (received q k) = false
+isCheckpoint (received q k c) = false
 
 -- position t is saved: it is 0, or a checkpoint's
 abbrev pub saved : History → ℕ → Bool

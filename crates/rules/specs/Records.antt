@@ -5,12 +5,13 @@ use Prim.Native.Nat.{ℕ, suc}
 use lib.Dec.{leb, ltb, eqb}
 use lib.ListN.{getD}
 
--- A record of kind 1, 2, 3 or 4. The send number of a send isn't kept: it is the send's place among the sends of its process.
+-- A record of kind 1, 2, 3 or 4. What follows from the records before it isn't kept: a send's number, which is its place among the sends
+-- of its process, and the number that it carries. A receipt keeps the carried number that was written with it.
 pub data Event : Type 0 where
   basic : (number : ℕ) → Event
   forced : (number : ℕ) → Event
   sent : (destination : ℕ) → Event
-  received : (sender : ℕ) → (k : ℕ) → Event
+  received : (sender : ℕ) → (k : ℕ) → (carried : ℕ) → Event
 
 -- A process's records, newest first: what was before a record is the rest of the list.
 abbrev pub History : Type 0
@@ -29,7 +30,7 @@ number [] = 0
 number (basic m ∷ h) = m
 number (forced m ∷ h) = m
 number (sent q ∷ h) = number h
-number (received q k ∷ h) = number h
+number (received q k c ∷ h) = number h
 
 -- the process's count of sends
 abbrev pub sends : History → ℕ
@@ -37,7 +38,7 @@ sends [] = 0
 sends (basic m ∷ h) = sends h
 sends (forced m ∷ h) = sends h
 sends (sent q ∷ h) = suc (sends h)
-sends (received q k ∷ h) = sends h
+sends (received q k c ∷ h) = sends h
 
 -- the carried number of the k-th send: the number of the sender's last checkpoint before it
 abbrev pub carried : History → ℕ → ℕ
@@ -45,7 +46,7 @@ carried [] k = 0
 carried (basic m ∷ h) k = carried h k
 carried (forced m ∷ h) k = carried h k
 carried (sent q ∷ h) k = cond (eqb k (suc (sends h))) (number h) (carried h k)
-carried (received q j ∷ h) k = carried h k
+carried (received q j c ∷ h) k = carried h k
 
 -- the destination of the k-th send
 abbrev pub destination : History → ℕ → ℕ
@@ -53,16 +54,16 @@ destination [] k = 0
 destination (basic m ∷ h) k = destination h k
 destination (forced m ∷ h) k = destination h k
 destination (sent q ∷ h) k = cond (eqb k (suc (sends h))) q (destination h k)
-destination (received q j ∷ h) k = destination h k
+destination (received q j c ∷ h) k = destination h k
 
 -- the k-th send is there, with p as its destination
 abbrev pub hasSend : History → ℕ → ℕ → Bool
 hasSend h p k = ltb 0 k && leb k (sends h) && eqb (destination h k) p
 
--- there is a receipt of (q, k), send k of q
+-- there is a receipt of (q, k), send k of q, whatever it carried
 abbrev pub hasReceipt : History → ℕ → ℕ → Bool
 hasReceipt [] q k = false
 hasReceipt (basic m ∷ h) q k = hasReceipt h q k
 hasReceipt (forced m ∷ h) q k = hasReceipt h q k
 hasReceipt (sent d ∷ h) q k = hasReceipt h q k
-hasReceipt (received r j ∷ h) q k = (eqb r q && eqb j k) || hasReceipt h q k
+hasReceipt (received r j c ∷ h) q k = (eqb r q && eqb j k) || hasReceipt h q k

@@ -30,7 +30,7 @@ carries s (receipt q k) = carried (history s q) k
 abbrev pub added : History → Call → ℕ → List Event
 added h checkpoint c = basic (nextNumber h) ∷ []
 added h (send q) c = sent q ∷ []
-added h (receipt q k) c = received q k ∷ cond (forces h c) (forced c ∷ []) []
+added h (receipt q k) c = received q k c ∷ cond (forces h c) (forced c ∷ []) []
 
 -- the history after the call
 abbrev pub grown : History → Call → ℕ → History

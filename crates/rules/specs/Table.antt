@@ -15,9 +15,9 @@ inRange n E = leb 1 n && leb n 16 && leb 1 E && leb E 1024
 abbrev pub heading : ℕ
 heading = 3
 
--- the words of a record: kind, a, b
+-- the words of a record: kind, a, b and, for a send or receipt, the carried number
 abbrev pub width : ℕ
-width = 3
+width = 4
 
 -- where section p starts
 abbrev pub start : ℕ → ℕ → ℕ
@@ -27,7 +27,7 @@ start E p = 2 + p * (heading + width * E)
 abbrev pub mostWords : ℕ
 mostWords = start 1024 16
 
--- the table's length in bytes, 8 + 12 × n × (E + 1)
+-- the table's length in bytes, 8 + 4 × n × (3 + 4 × E)
 abbrev pub size : ℕ → ℕ → ℕ
 size n E = 8 + 4 * n * (heading + width * E)
 
@@ -35,10 +35,10 @@ size n E = 8 + 4 * n * (heading + width * E)
 
 -- the words of a record that comes after those of h
 abbrev pub recordWords : Event → History → List ℕ
-recordWords (basic m) h = 1 ∷ m ∷ 0 ∷ []
-recordWords (forced m) h = 2 ∷ m ∷ 0 ∷ []
-recordWords (sent q) h = 3 ∷ q ∷ suc (sends h) ∷ []
-recordWords (received q k) h = 4 ∷ q ∷ k ∷ []
+recordWords (basic m) h = 1 ∷ m ∷ 0 ∷ 0 ∷ []
+recordWords (forced m) h = 2 ∷ m ∷ 0 ∷ 0 ∷ []
+recordWords (sent q) h = 3 ∷ q ∷ suc (sends h) ∷ number h ∷ []
+recordWords (received q k c) h = 4 ∷ q ∷ k ∷ c ∷ []
 
 -- the used records, oldest first
 abbrev pub usedWords : History → List ℕ
@@ -67,12 +67,12 @@ fresh n = replicate n []
 -- ---- from bytes to records; w i is word i of the table
 
 -- a record from its words; a well laid table has no other kinds than these
-abbrev pub eventOf : ℕ → ℕ → ℕ → Event
-eventOf kind a b = cond (eqb kind 4) (received a b) (cond (eqb kind 3) (sent a) (cond (eqb kind 2) (forced a) (basic a)))
+abbrev pub eventOf : ℕ → ℕ → ℕ → ℕ → Event
+eventOf kind a b c = cond (eqb kind 4) (received a b c) (cond (eqb kind 3) (sent a) (cond (eqb kind 2) (forced a) (basic a)))
 
 -- the record whose words start at word i
 abbrev pub eventAt : (ℕ → ℕ) → ℕ → Event
-eventAt w i = eventOf (w i) (w (i + 1)) (w (i + 2))
+eventAt w i = eventOf (w i) (w (i + 1)) (w (i + 2)) (w (i + 3))
 
 -- the first i records from word `at` on
 abbrev pub recordsAt : (ℕ → ℕ) → ℕ → ℕ → History
@@ -97,17 +97,18 @@ decoded t = sectionsFrom (word t) (word t 1) 0 (word t 0)
 
 -- ---- well laid
 
--- a used record of process p, after those of h: its kind is from the table; a checkpoint's number is at most n × E and its b is 0; a
--- send or receipt names another process below n and a send number from 1 to E; the k-th send has send number k
-abbrev pub recordOk : ℕ → ℕ → ℕ → History → ℕ → ℕ → ℕ → Bool
-recordOk n E p h kind a b =
-    cond (eqb kind 1 || eqb kind 2) (leb a (n * E) && eqb b 0)
-    (cond (eqb kind 3) (ltb a n && not (eqb a p) && ltb 0 b && leb b E && eqb b (suc (sends h)))
-    (cond (eqb kind 4) (ltb a n && not (eqb a p) && ltb 0 b && leb b E) false))
+-- a used record of process p, after those of h: its kind is from the table; a checkpoint's number is at most n × E, its b is 0 and its
+-- fourth word c is 0; a send or receipt names another process below n and a send number from 1 to E; the k-th send has send number k;
+-- a send's c equals the number of the last checkpoint before it, and a receipt's isn't above that number
+abbrev pub recordOk : ℕ → ℕ → ℕ → History → ℕ → ℕ → ℕ → ℕ → Bool
+recordOk n E p h kind a b c =
+    cond (eqb kind 1 || eqb kind 2) (leb a (n * E) && eqb b 0 && eqb c 0)
+    (cond (eqb kind 3) (ltb a n && not (eqb a p) && ltb 0 b && leb b E && eqb b (suc (sends h)) && eqb c (number h))
+    (cond (eqb kind 4) (ltb a n && not (eqb a p) && ltb 0 b && leb b E && leb c (number h)) false))
 
 -- whether the record whose words start at word i passes this test
 abbrev pub recordOkAt : ℕ → ℕ → ℕ → History → (ℕ → ℕ) → ℕ → Bool
-recordOkAt n E p h w i = recordOk n E p h (w i) (w (i + 1)) (w (i + 2))
+recordOkAt n E p h w i = recordOk n E p h (w i) (w (i + 1)) (w (i + 2)) (w (i + 3))
 
 abbrev pub recordsOk : ℕ → ℕ → (ℕ → ℕ) → ℕ → ℕ → ℕ → Bool
 recordsOk n E w p at zero = true

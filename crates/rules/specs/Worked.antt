@@ -1,7 +1,7 @@
 -- Document 01, "A worked controller".
 use mathlib.Core.Path.{_≡_, refl}
 use mathlib.Core.Bool.{true}
-use mathlib.Core.List.{List, [], _∷_, map}
+use mathlib.Core.List.{List, [], _∷_, _++_, map}
 use Prim.Native.Nat.{ℕ, _*_}
 use lib.ListN.{replicate}
 use lib.Count.{ones, onesIn}
@@ -13,12 +13,12 @@ use Rattle.rules.specs.FailureLine.{round, rounds, failureLine}
 use Rattle.rules.specs.Calls.{Outcome, areaLength, failureAnswer, answerWords, freshOn, stepOn, lineOn, failedOn}
 use Rattle.rules.specs.Lists.{Entry, entry, outcomesOn, tableAfter}
 
--- "n = 1, E = 1 gives 32; n = 8, E = 256 gives 24,680; n = 16, E = 1,024 gives 196,808"
+-- Document 02, slip 3: "n = 2, E = 4 gives 160"; by the same formula the lengths for which document 01 has its own figures
 abbrev lengths : List ℕ
-lengths = size 1 1 ∷ size 8 256 ∷ size 16 1024 ∷ []
+lengths = size 1 1 ∷ size 2 4 ∷ size 8 256 ∷ size 16 1024 ∷ []
 
-pub stated-lengths : lengths ≡ 32 ∷ 24680 ∷ 196808 ∷ []
-stated-lengths = same-equal lengths (32 ∷ 24680 ∷ 196808 ∷ []) refl
+pub stated-lengths : lengths ≡ 36 ∷ 160 ∷ 32872 ∷ 262344 ∷ []
+stated-lengths = same-equal lengths (36 ∷ 160 ∷ 32872 ∷ 262344 ∷ []) refl
 
 -- the table that a fresh call leaves, whatever the bytes were
 abbrev freshTable : ℕ → ℕ → List ℕ
@@ -43,14 +43,17 @@ workedCalls =
     ∷ exact 2 (receipt 1 1)
     ∷ []
 
--- the table that they leave, section by section
+-- the table that they leave, section by section: each heading, the used records, and zeros
 abbrev pub worked : List ℕ
 worked =
     bytes
     (3 ∷ 6
-    ∷ 2 ∷ 1 ∷ 1 ∷ 1 ∷ 1 ∷ 0 ∷ 3 ∷ 1 ∷ 1 ∷ 0 ∷ 0 ∷ 0 ∷ 0 ∷ 0 ∷ 0 ∷ 0 ∷ 0 ∷ 0 ∷ 0 ∷ 0 ∷ 0
-    ∷ 4 ∷ 1 ∷ 2 ∷ 3 ∷ 2 ∷ 1 ∷ 2 ∷ 1 ∷ 0 ∷ 4 ∷ 0 ∷ 1 ∷ 3 ∷ 2 ∷ 2 ∷ 0 ∷ 0 ∷ 0 ∷ 0 ∷ 0 ∷ 0
-    ∷ 3 ∷ 1 ∷ 0 ∷ 2 ∷ 1 ∷ 0 ∷ 4 ∷ 1 ∷ 2 ∷ 4 ∷ 1 ∷ 1 ∷ 0 ∷ 0 ∷ 0 ∷ 0 ∷ 0 ∷ 0 ∷ 0 ∷ 0 ∷ 0
+    ∷ 2 ∷ 1 ∷ 1
+    ∷ 1 ∷ 1 ∷ 0 ∷ 0 ∷ 3 ∷ 1 ∷ 1 ∷ 1 ∷ 0 ∷ 0 ∷ 0 ∷ 0 ∷ 0 ∷ 0 ∷ 0 ∷ 0 ∷ 0 ∷ 0 ∷ 0 ∷ 0 ∷ 0 ∷ 0 ∷ 0 ∷ 0
+    ∷ 4 ∷ 1 ∷ 2
+    ∷ 3 ∷ 2 ∷ 1 ∷ 0 ∷ 2 ∷ 1 ∷ 0 ∷ 0 ∷ 4 ∷ 0 ∷ 1 ∷ 1 ∷ 3 ∷ 2 ∷ 2 ∷ 1 ∷ 0 ∷ 0 ∷ 0 ∷ 0 ∷ 0 ∷ 0 ∷ 0 ∷ 0
+    ∷ 3 ∷ 1 ∷ 0
+    ∷ 2 ∷ 1 ∷ 0 ∷ 0 ∷ 4 ∷ 1 ∷ 2 ∷ 1 ∷ 4 ∷ 1 ∷ 1 ∷ 0 ∷ 0 ∷ 0 ∷ 0 ∷ 0 ∷ 0 ∷ 0 ∷ 0 ∷ 0 ∷ 0 ∷ 0 ∷ 0 ∷ 0
     ∷ [])
 
 pub worked-table : tableAfter (freshTable 3 6) workedCalls ≡ worked
@@ -143,7 +146,54 @@ equal-number = refl
 -- No run makes this table: process 1 has a receipt of send 1 of process 0, which goes to 2. It is an orphan in every cut, so process 1
 -- goes back although none failed.
 pub other-destination : told (failedOn
-    (bytes (3 ∷ 1 ∷ 1 ∷ 0 ∷ 1 ∷ 3 ∷ 2 ∷ 1 ∷ 1 ∷ 0 ∷ 0 ∷ 4 ∷ 0 ∷ 1 ∷ 0 ∷ 0 ∷ 0 ∷ 0 ∷ 0 ∷ 0 ∷ [])) (area 5) 0)
+    (bytes (3 ∷ 1 ∷ 1 ∷ 0 ∷ 1 ∷ 3 ∷ 2 ∷ 1 ∷ 0 ∷ 1 ∷ 0 ∷ 0 ∷ 4 ∷ 0 ∷ 1 ∷ 0 ∷ 0 ∷ 0 ∷ 0 ∷ 0 ∷ 0 ∷ 0 ∷ 0 ∷ [])) (area 5) 0)
     ≡ 0 ∷ 1 ∷ 0 ∷ 0 ∷ 2 ∷ 1 ∷ []
 unfolding failedOn decoded wellLaid word putWord putWords failureAnswer failureLine rounds round ones onesIn
 other-destination = refl
+
+-- ---- Document 02, slip 3: the fourth word of a record
+
+-- n = 2, E = 2: process 0 has two records, of which s are sends, and its number is 3
+abbrev twoRecords : ℕ → List ℕ → List ℕ → List ℕ
+twoRecords s first second = bytes (2 ∷ 2 ∷ 2 ∷ 3 ∷ s ∷ (first ++ second ++ replicate 11 0))
+
+-- a checkpoint numbered 3, and the fourth word c of a send, of a receipt and of a checkpoint
+abbrev save : ℕ → List ℕ
+save c = 1 ∷ 3 ∷ 0 ∷ c ∷ []
+
+abbrev out : ℕ → List ℕ
+out c = 3 ∷ 1 ∷ 1 ∷ c ∷ []
+
+abbrev arrived : ℕ → List ℕ
+arrived c = 4 ∷ 1 ∷ 2 ∷ c ∷ []
+
+-- line 0 of such a table: answered where it is well laid, else row 3
+abbrev laid : ℕ → List ℕ → List ℕ → Outcome
+laid s first second = lineOn (twoRecords s first second) (area 2) 0
+
+-- A send's word is the number of the last checkpoint before it, no less and no more, and not of one that follows it; a receipt's is at
+-- most that number, and again the one before it counts; a checkpoint's is 0.
+abbrev wordCases : List Case
+wordCases =
+    case (laid 1 (save 0) (out 3)) (0 ∷ 0 ∷ 0 ∷ [])
+    ∷ case (laid 1 (save 0) (out 2)) (3 ∷ [])
+    ∷ case (laid 1 (save 0) (out 4)) (3 ∷ [])
+    ∷ case (laid 1 (out 0) (save 0)) (0 ∷ 0 ∷ 0 ∷ [])
+    ∷ case (laid 1 (out 3) (save 0)) (3 ∷ [])
+    ∷ case (laid 0 (save 0) (arrived 3)) (0 ∷ 0 ∷ 0 ∷ [])
+    ∷ case (laid 0 (save 0) (arrived 1)) (0 ∷ 0 ∷ 0 ∷ [])
+    ∷ case (laid 0 (save 0) (arrived 4)) (3 ∷ [])
+    ∷ case (laid 0 (arrived 0) (save 0)) (0 ∷ 0 ∷ 0 ∷ [])
+    ∷ case (laid 0 (arrived 3) (save 0)) (3 ∷ [])
+    ∷ case (laid 0 (save 0) (save 0)) (0 ∷ 0 ∷ 0 ∷ [])
+    ∷ case (laid 0 (save 1) (save 0)) (3 ∷ [])
+    ∷ []
+
+pub word-cases : AsStated wordCases
+unfolding lineOn decoded wellLaid word putWord putWords
+word-cases = as-stated wordCases refl
+
+-- a table as long as document 01 had it for n = 2, E = 4, with three words a record, has another length
+pub old-length : freshOn (replicate 128 0) 2 4 .returned ≡ 2
+unfolding freshOn layout
+old-length = refl

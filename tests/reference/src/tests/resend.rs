@@ -14,12 +14,8 @@ fn brute(model: &Table, cut: &[usize]) -> Vec<u32> {
     for q in 0..model.n() {
         for k in 1..=model.dimensions.e as u32 {
             for p in 0..model.n() {
-                let sent = model.sections[q][..cut[q]]
-                    .iter()
-                    .any(|r| matches!(*r, Record::Send { to, number, .. } if (to, number) == (p, k)));
-                let got = model.sections[p][..cut[p]]
-                    .iter()
-                    .any(|r| matches!(*r, Record::Receipt { from, number, .. } if (from, number) == (q, k)));
+                let sent = model.sections[q][..cut[q]].iter().any(|r| r.is_send(p, k));
+                let got = model.sections[p][..cut[p]].iter().any(|r| r.is_receipt(q, k));
                 if sent && !got {
                     list[0] += 1;
                     list.extend([q as u32, k, p as u32]);
