@@ -60,7 +60,7 @@ module _ (from : ℕ) (to : List ℕ) where
           → getD (noted from (x ∷ h) to) (from + k) 0 ≡ destination (x ∷ h) k
       go (basic m) a l d r = noted-there (basic m) h k (omega arith) ∙ r l
       go (forced m) a l d r = noted-there (forced m) h k (omega arith) ∙ r l
-      go (received q j) a l d r = noted-there (received q j) h k (omega arith) ∙ r l
+      go (received q j c) a l d r = noted-there (received q j c) h k (omega arith) ∙ r l
       go (sent q) a l (yes z) r =
           let s : k ≡ suc (sends h) = omega arith in
           let i : from + k ≡ from + sends h + 1 = omega arith in
@@ -86,14 +86,14 @@ module _ (from : ℕ) (to : List ℕ) where
           → getD (noted from (x ∷ h) to) (from + k) 0 ≡ 16
       go (basic m) l (yes z) r = last (basic m) refl z
       go (forced m) l (yes z) r = last (forced m) refl z
-      go (received q j) l (yes z) r = last (received q j) refl z
+      go (received q j c) l (yes z) r = last (received q j c) refl z
       go (sent q) l (yes z) r = absurd (omega arith)
       go x l (no z) r = noted-there x h k z ∙ r (less x l) in-list
         where
           less : (x : Event) → sends (x ∷ h) < k → sends h < k
           less (basic m) y = y
           less (forced m) y = y
-          less (received q j) y = y
+          less (received q j c) y = y
           less (sent q) y = omega arith
 
 -- ---- receipts struck
@@ -126,7 +126,7 @@ module _ (starts counts : List ℕ) (p : ℕ) (to : List ℕ) where
   struck-length (basic m ∷ h) = struck-length h
   struck-length (forced m ∷ h) = struck-length h
   struck-length (sent q ∷ h) = struck-length h
-  struck-length (received q k ∷ h) =
+  struck-length (received q k c ∷ h) =
       let u = struck starts counts p h to in
       let i = placeOf starts counts q k in
       length-set u i (cond (eqb (getD u i 0) p) 16 (getD u i 0)) ∙ struck-length h
@@ -173,7 +173,7 @@ module _ (starts counts : List ℕ) (p : ℕ) (to : List ℕ) where
     struck-at (basic m ∷ h) legal = struck-at h (legal .1)
     struck-at (forced m ∷ h) legal = struck-at h (legal .1)
     struck-at (sent d ∷ h) legal = struck-at h (legal .1)
-    struck-at (received q′ k′ ∷ h) legal = go (ℕ-discrete x i) (struck-at h (legal .1))
+    struck-at (received q′ k′ c ∷ h) legal = go (ℕ-discrete x i) (struck-at h (legal .1))
       where
         u : List ℕ
         u = struck starts counts p h to

@@ -11,7 +11,7 @@ abbrev pub noteOf : Event → ℕ
 noteOf (basic m) = 16
 noteOf (forced m) = 16
 noteOf (sent q) = q % 32
-noteOf (received q k) = 16
+noteOf (received q k c) = 16
 
 -- the list after a process's records
 abbrev pub noted : ℕ → History → List ℕ → List ℕ
@@ -35,7 +35,7 @@ struck starts counts p [] to = to
 struck starts counts p (basic m ∷ h) to = struck starts counts p h to
 struck starts counts p (forced m ∷ h) to = struck starts counts p h to
 struck starts counts p (sent q ∷ h) to = struck starts counts p h to
-struck starts counts p (received q k ∷ h) to =
+struck starts counts p (received q k c ∷ h) to =
     let u = struck starts counts p h to in
     let i = placeOf starts counts q k in
     set u i (cond (eqb (getD u i 0) p) 16 (getD u i 0))

@@ -11,7 +11,7 @@ abbrev pub late : List ℕ → Event → Bool
 late counts (basic m) = false
 late counts (forced m) = false
 late counts (sent q) = false
-late counts (received q k) = ltb (getD counts (q % 16) 0) k
+late counts (received q k c) = ltb (getD counts (q % 16) 0) k
 
 -- where send k of process q is noted if each process has E notes; 0 where a list of this length doesn't have it
 abbrev pub noteIndex : ℕ → ℕ → ℕ → ℕ → ℕ
@@ -22,4 +22,4 @@ abbrev pub unsent : ℕ → ℕ → List ℕ → Event → Bool
 unsent E p to (basic m) = false
 unsent E p to (forced m) = false
 unsent E p to (sent q) = false
-unsent E p to (received q k) = not (eqb (getD to (noteIndex E (length to) q k) 0) p)
+unsent E p to (received q k c) = not (eqb (getD to (noteIndex E (length to) q k) 0) p)

@@ -24,7 +24,7 @@ fn sections_ok(t: &[u8], n: usize, e: usize) -> bool
         used::TOP_REST,
         used::TOP_TOP,
     ];
-    let masks = [0, 0, 0, 18446744073709551615, 0];
+    let masks = [0, 0, 0, 0, 18446744073709551615, 0];
     if !unused::rears(t, n, e) {
         return false;
     }

@@ -146,7 +146,7 @@ always-fair s P p mask O other A clean = none-any (alwaysOrphan s p) (part s oth
     go (basic m) x = refl
     go (forced m) x = refl
     go (sent q) x = refl
-    go (received q k) x = rw (holds-older (upto-is-older (getD other q 0) (history s q)) p k (not-false (hasSend (part s other q) p k) x))
+    go (received q k c) x = rw (holds-older (upto-is-older (getD other q 0) (history s q)) p k (not-false (hasSend (part s other q) p k) x))
 
 module _ (s : State) (P S : List ℕ) (C : Counted s P S) (few : length s ≤ 16) where
   count-of : (q : ℕ) → q < length s → getD S (q % 16) 0 ≡ sends (part s P q)
@@ -159,7 +159,7 @@ module _ (s : State) (P S : List ℕ) (C : Counted s P S) (few : length s ≤ 16
       go (basic m) x = refl
       go (forced m) x = refl
       go (sent q) x = refl
-      go (received q k) x =
+      go (received q k c) x =
           let y = not-false (hasSend (part s other q) p k) x in
           let H = holds-held (part s other q) p k y in
           let lq = sender s p q k (holds-older (upto-is-older (getD other q 0) (history s q)) p k y) in
@@ -176,7 +176,7 @@ module _ (s : State) (P S : List ℕ) (C : Counted s P S) (few : length s ≤ 16
       go lt (basic n) a b = refl
       go lt (forced n) a b = refl
       go lt (sent q) a b = refl
-      go lt (received q k) a b =
+      go lt (received q k c) a b =
           let y = not-false (hasSend (history s q) p k) a in
           let H = holds-held (history s q) p k y in
           let lq = sender s p q k y in
@@ -227,4 +227,4 @@ over-line mask s P O clean p lt =
     orphan-same q (basic m) = refl
     orphan-same q (forced m) = refl
     orphan-same q (sent d) = refl
-    orphan-same q (received d k) = ap (λ (h : History). not (hasSend h q k)) (part-cut d)
+    orphan-same q (received d k c) = ap (λ (h : History). not (hasSend h q k)) (part-cut d)

@@ -77,7 +77,7 @@ unsent-always s n E p to lp room N h legal = before-same (unsent E p to) (always
     same (basic m) g a = refl
     same (forced m) g a = refl
     same (sent d) g a = refl
-    same (received q k) g (lq, ne, pos, le) =
+    same (received q k c) g (lq, ne, pos, le, most) =
         let m = mul-le-mul-right {m = q + 1} {n = n} E (omega arith) in
         let i : noteIndex E (length to) q k ≡ q * E + k = rw (lt-ltb (q * E + k) (length to) (omega arith)) in
         let z : eqb (getD to (noteIndex E (length to) q k) 0) p ≡ hasSend f p k =

@@ -21,7 +21,7 @@ abbrev pub alwaysOrphan : State → ℕ → Event → Bool
 alwaysOrphan s p (basic m) = false
 alwaysOrphan s p (forced m) = false
 alwaysOrphan s p (sent q) = false
-alwaysOrphan s p (received q k) = not (hasSend (history s q) p k)
+alwaysOrphan s p (received q k c) = not (hasSend (history s q) p k)
 
 -- none of the first p processes has such a receipt in the cut
 abbrev pub NoneAlways : State → List ℕ → ℕ → Type 0

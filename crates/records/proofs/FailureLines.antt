@@ -94,7 +94,7 @@ orphan-later : (s : State) (other cut : List ℕ) → AtMost other cut → (p : 
 orphan-later s other cut a p (basic m) x = refl
 orphan-later s other cut a p (forced m) x = refl
 orphan-later s other cut a p (sent q) x = refl
-orphan-later s other cut a p (received q k) x =
+orphan-later s other cut a p (received q k c) x =
     rw (holds-older (upto-mono (getD other q 0) (getD cut q 0) (history s q) (a q)) p k (not-false (hasSend (part s other q) p k) x))
 
 module _ (mask : ℕ) (s : State) (other : List ℕ) (P : Permitted mask s other) (clean : NoOrphan s other) where

@@ -17,7 +17,7 @@ sends-cons : (e : Event) (h : History) → sends h ≤ sends (e ∷ h)
 sends-cons (basic m) h = le-refl (sends h)
 sends-cons (forced m) h = le-refl (sends h)
 sends-cons (sent q) h = omega arith
-sends-cons (received q k) h = le-refl (sends h)
+sends-cons (received q k c) h = le-refl (sends h)
 
 pub sends-older : {h g : History} → Older h g → sends h ≤ sends g
 sends-older {h} same = le-refl (sends h)
@@ -27,7 +27,7 @@ carried-cons : (e : Event) (h : History) (k : ℕ) → k ≤ sends h → carried
 carried-cons (basic m) h k le = refl
 carried-cons (forced m) h k le = refl
 carried-cons (sent q) h k le = rw (ne-eqb k (suc (sends h)) (omega arith))
-carried-cons (received q j) h k le = refl
+carried-cons (received q j c) h k le = refl
 
 -- what is asked of the k-th send stays what it was
 kept-older : (f : History → ℕ → ℕ) → ((e : Event) (h : History) (k : ℕ) → k ≤ sends h → f (e ∷ h) k ≡ f h k)
@@ -42,7 +42,7 @@ destination-cons : (e : Event) (h : History) (k : ℕ) → k ≤ sends h → des
 destination-cons (basic m) h k le = refl
 destination-cons (forced m) h k le = refl
 destination-cons (sent q) h k le = rw (ne-eqb k (suc (sends h)) (omega arith))
-destination-cons (received q j) h k le = refl
+destination-cons (received q j c) h k le = refl
 
 pub destination-older : {h g : History} → Older h g → (k : ℕ) → k ≤ sends h → destination g k ≡ destination h k
 destination-older = kept-older destination destination-cons
@@ -94,7 +94,7 @@ pub send-of : (h : History) (k : ℕ) → 0 < k → k ≤ sends h → SendOf h k
 send-of [] k pos le = absurd (omega arith)
 send-of (basic m ∷ h) k pos le = send-later (basic m) h k le (send-of h k pos le)
 send-of (forced m ∷ h) k pos le = send-later (forced m) h k le (send-of h k pos le)
-send-of (received q j ∷ h) k pos le = send-later (received q j) h k le (send-of h k pos le)
+send-of (received q j c ∷ h) k pos le = send-later (received q j c) h k le (send-of h k pos le)
 send-of (sent q ∷ h) k pos le = go (test (eqb k (suc (sends h)))) (send-of h k pos)
   where
     go : Test (eqb k (suc (sends h))) → (k ≤ sends h → SendOf h k) → SendOf (sent q ∷ h) k

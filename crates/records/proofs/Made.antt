@@ -1,5 +1,5 @@
 -- What holds of every state that a list of calls makes: sizes, numbers that never fall, receipts with their sends, each once.
-use mathlib.Core.Path.{_≡_, refl, _∙_, subst}
+use mathlib.Core.Path.{_≡_, refl, sym, _∙_, subst}
 use mathlib.Core.Logic.{_≢_, _⊎_, inl, inr}
 use mathlib.Core.Bool.{Bool, true, false, cond}
 use mathlib.Core.List.{List, [], _∷_, _++_, map}
@@ -20,13 +20,13 @@ use Rattle.basics.proofs.Booleans.{Test, passes, fails, test}
 use Rattle.records.proofs.Histories.{holds-held, holds-older, carried-older, Each, each-all, Rising}
 use Rattle.records.proofs.Steps.{Accepted, run-keeps, after-keeps, history-fresh, each-step, grown-older, grown-length, stepped-older, carries-later}
 
--- ---- each receipt has its send, addressed to it, and comes after a checkpoint with at least the number carried
+-- ---- each receipt has its send, addressed to it, keeps what that carried, and comes after a checkpoint with at least this number
 
 abbrev pub Source : State → ℕ → Event → History → Type 0
 Source s p (basic m) h = Unit {0}
 Source s p (forced m) h = Unit {0}
 Source s p (sent q) h = Unit {0}
-Source s p (received q k) h = (hasSend (history s q) p k ≡ true) × (carried (history s q) k ≤ number h)
+Source s p (received q k c) h = (hasSend (history s q) p k ≡ true) × (c ≡ carried (history s q) k) × (c ≤ number h)
 
 abbrev pub Sourced : State → ℕ → History → Type 0
 Sourced s p = Each (Source s p)
@@ -35,9 +35,10 @@ source-later : (s f : State) → ((q : ℕ) → Older (history s q) (history f q
 source-later s f o p (basic m) h S = tt
 source-later s f o p (forced m) h S = tt
 source-later s f o p (sent q) h S = tt
-source-later s f o p (received q k) h S = (
+source-later s f o p (received q k c) h S = (
   holds-older (o q) p k (S .0),
-  rw (carried-older (o q) k (holds-held (history s q) p k (S .0) .counted)) (S .1),
+  S .1 ∙ sym (carried-older (o q) k (holds-held (history s q) p k (S .0) .counted)),
+  S .2,
 )
 
 -- ---- sends and receipts name another process
@@ -46,7 +47,7 @@ abbrev pub Name : ℕ → ℕ → Event → History → Type 0
 Name n p (basic m) h = Unit {0}
 Name n p (forced m) h = Unit {0}
 Name n p (sent q) h = (q < n) × (q ≢ p)
-Name n p (received q k) h = (q < n) × (q ≢ p)
+Name n p (received q k c) h = (q < n) × (q ≢ p)
 
 grown-named : (n E : ℕ) (s : State) (p : ℕ) (call : Call) → Accepted n E s p call → (h : History) (c : ℕ) → Each (Name n p) h → Each (Name n p) (grown h call c)
 grown-named n E s p checkpoint A h c N = (tt, N)
@@ -63,7 +64,7 @@ abbrev pub New : Event → History → Type 0
 New (basic m) h = Unit {0}
 New (forced m) h = Unit {0}
 New (sent q) h = Unit {0}
-New (received q k) h = hasReceipt h q k ≡ false
+New (received q k c) h = hasReceipt h q k ≡ false
 
 -- by row 8
 grown-new : (n E : ℕ) (s : State) (p : ℕ) (call : Call) → Accepted n E s p call → (c : ℕ) → Each New (history s p) → Each New (grown (history s p) call c)
@@ -71,7 +72,7 @@ grown-new n E s p checkpoint A c N = (tt, N)
 grown-new n E s p (send q) A c N = (tt, N)
 grown-new n E s p (receipt q k) A c N = go (forces (history s p) c)
   where
-    go : (b : Bool) → Each New (received q k ∷ (cond b (forced c ∷ []) [] ++ history s p))
+    go : (b : Bool) → Each New (received q k c ∷ (cond b (forced c ∷ []) [] ++ history s p))
     go true = (A .message .3, (tt, N))
     go false = (A .message .3, N)
 
@@ -81,7 +82,7 @@ pub carried-le : (h : History) (k : ℕ) → Rising h → carried h k ≤ number
 carried-le [] k r = zero-le
 carried-le (basic m ∷ h) k r = le-trans (carried-le h k (r .1)) (r .0)
 carried-le (forced m ∷ h) k r = le-trans (carried-le h k (r .1)) (r .0)
-carried-le (received q j ∷ h) k r = carried-le h k (r .1)
+carried-le (received q j c ∷ h) k r = carried-le h k (r .1)
 carried-le (sent q ∷ h) k r = go (eqb k (suc (sends h))) (carried-le h k (r .1))
   where
     go : (b : Bool) → carried h k ≤ number h → cond b (number h) (carried h k) ≤ number h
@@ -124,7 +125,7 @@ grown-rising h checkpoint c r = (omega arith, r)
 grown-rising h (send q) c r = (le-refl (number h), r)
 grown-rising h (receipt q k) c r = go (test (forces h c))
   where
-    go : Test (forces h c) → Rising (received q k ∷ (cond (forces h c) (forced c ∷ []) [] ++ h))
+    go : Test (forces h c) → Rising (received q k c ∷ (cond (forces h c) (forced c ∷ []) [] ++ h))
     go (passes e) = rw e (le-refl c, (let l = ltb-true (number h) c e in omega arith, r))
     go (fails e) = rw e (le-refl (number h), r)
 
@@ -134,9 +135,9 @@ grown-sourced f p h checkpoint c x m S = (tt, S)
 grown-sourced f p h (send q) c x m S = (tt, S)
 grown-sourced f p h (receipt q k) c x m S = go (test (forces h c))
   where
-    go : Test (forces h c) → Sourced f p (received q k ∷ (cond (forces h c) (forced c ∷ []) [] ++ h))
-    go (passes e) = rw e ((m q k refl, omega arith), (tt, S))
-    go (fails e) = rw e ((m q k refl, (let l = ltb-false (number h) c e in omega arith)), S)
+    go : Test (forces h c) → Sourced f p (received q k c ∷ (cond (forces h c) (forced c ∷ []) [] ++ h))
+    go (passes e) = rw e ((m q k refl, sym x, le-refl c), (tt, S))
+    go (fails e) = rw e ((m q k refl, sym x, ltb-false (number h) c e), S)
 
 grown-number : (h : History) (call : Call) (c t : ℕ) → number h ≤ t → c ≤ t → number (grown h call c) + length h ≤ t + length (grown h call c)
 grown-number h checkpoint c t a b = omega arith

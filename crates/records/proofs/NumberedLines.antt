@@ -96,14 +96,14 @@ below-reached N [] e = leb-false N 0 e
 below-reached N (basic m ∷ h) e = leb-false N m (or-false (leb N m) (reached N h) e .0)
 below-reached N (forced m ∷ h) e = leb-false N m (or-false (leb N m) (reached N h) e .0)
 below-reached N (sent q ∷ h) e = below-reached N h e
-below-reached N (received q k ∷ h) e = below-reached N h e
+below-reached N (received q k c ∷ h) e = below-reached N h e
 
 reached-below : (N : ℕ) (h : History) → Rising h → number h < N → reached N h ≡ false
 reached-below N [] r lt = lt-leb N 0 lt
 reached-below N (basic m ∷ h) r lt = let a = r .0 in rw (lt-leb N m lt) (reached-below N h (r .1) (omega arith))
 reached-below N (forced m ∷ h) r lt = let a = r .0 in rw (lt-leb N m lt) (reached-below N h (r .1) (omega arith))
 reached-below N (sent q ∷ h) r lt = reached-below N h (r .1) lt
-reached-below N (received q k ∷ h) r lt = reached-below N h (r .1) lt
+reached-below N (received q k c ∷ h) r lt = reached-below N h (r .1) lt
 
 -- before the newest record of a line's part no such checkpoint is reached
 abbrev Unreached : ℕ → History → Type 0
@@ -154,7 +154,7 @@ module _ (n E : ℕ) (s : State) (M : Sound n E s) (N : ℕ) where
   here p (basic m) h S u = refl
   here p (forced m) h S u = refl
   here p (sent q) h S u = refl
-  here p (received q k) h S u = rw (part-line N s q, send-kept p q k (number h) (S .0) (S .1) (below-reached N h u))
+  here p (received q k c) h S u = rw (part-line N s q, send-kept p q k (number h) (S .0) (let x = S .1 in let y = S .2 in omega arith) (below-reached N h u))
 
   clean-part : (p : ℕ) (h : History) → Sourced s p h → Unreached N h → (e : Event) → List·Memᴰ e h → orphan s (numberedLine N s) p e ≡ false
   clean-part p [] S u e m = absurd (List·Memᴰ·not-nil m)

@@ -11,7 +11,7 @@ use lib.Dec.{ltb, eqb}
 use lib.ListN.{length, getD, List·getD-eq-default}
 use borrow.Author.Tests.{eqb-true, ltb-false, le-ltb}
 use Rattle.basics.specs.Sums.{sumBelow, sumPairs}
-use Rattle.rules.specs.Records.{basic, forced, sent, received, History, State, history, sends, destination, hasSend, hasReceipt}
+use Rattle.rules.specs.Records.{Event, basic, forced, sent, received, History, State, history, sends, destination, hasSend, hasReceipt}
 use Rattle.rules.specs.Lines.{upto, part}
 use Rattle.rules.specs.FailureLine.{sum}
 use Rattle.rules.specs.Resend.{Message, message, got, unlessGot, transitOf, transitBelow, inTransit, above}
@@ -29,21 +29,25 @@ sends-within s cut q k pos le = go (decLt q (length s))
     go (yes l) = l
     go (no l) = let z = ap sends (part-beyond s cut q (omega arith)) in absurd (omega arith)
 
--- a receipt that a history has is one of its records
-pub receipt-there : (h : History) (q k : ℕ) → hasReceipt h q k ≡ true → List·Memᴰ (received q k) h
+-- a receipt of (q, k) that is there stays there
+later-there : {h : History} {q k : ℕ} (e : Event) → (c : ℕ) × List·Memᴰ (received q k c) h → (c : ℕ) × List·Memᴰ (received q k c) (e ∷ h)
+later-there e m = (m .0, List·Memᴰ·tail (m .1))
+
+-- a receipt that a history has is one of its records, whatever it carried
+pub receipt-there : (h : History) (q k : ℕ) → hasReceipt h q k ≡ true → (c : ℕ) × List·Memᴰ (received q k c) h
 receipt-there [] q k e = clash false e refl
-receipt-there (basic m ∷ h) q k e = List·Memᴰ·tail (receipt-there h q k e)
-receipt-there (forced m ∷ h) q k e = List·Memᴰ·tail (receipt-there h q k e)
-receipt-there (sent d ∷ h) q k e = List·Memᴰ·tail (receipt-there h q k e)
-receipt-there (received r j ∷ h) q k e = go (true-or (eqb r q && eqb j k) (hasReceipt h q k) e) (receipt-there h q k)
+receipt-there (basic m ∷ h) q k e = later-there (basic m) (receipt-there h q k e)
+receipt-there (forced m ∷ h) q k e = later-there (forced m) (receipt-there h q k e)
+receipt-there (sent d ∷ h) q k e = later-there (sent d) (receipt-there h q k e)
+receipt-there (received r j c ∷ h) q k e = go (true-or (eqb r q && eqb j k) (hasReceipt h q k) e) (receipt-there h q k)
   where
-    go : ((eqb r q && eqb j k) ≡ true) ⊎ (hasReceipt h q k ≡ true) → (hasReceipt h q k ≡ true → List·Memᴰ (received q k) h)
-        → List·Memᴰ (received q k) (received r j ∷ h)
+    go : ((eqb r q && eqb j k) ≡ true) ⊎ (hasReceipt h q k ≡ true) → (hasReceipt h q k ≡ true → (m : ℕ) × List·Memᴰ (received q k m) h)
+        → (m : ℕ) × List·Memᴰ (received q k m) (received r j c ∷ h)
     go (inl a) f =
         let x = eqb-true r q (and-left (eqb r q) (eqb j k) a) in
         let y = eqb-true j k (and-right (eqb r q) (eqb j k) a) in
-        List·Memᴰ·head (ap₂ received (sym x) (sym y))
-    go (inr a) f = List·Memᴰ·tail (f a)
+        (c, List·Memᴰ·head (ap₂ (λ (i l : ℕ). received i l c) (sym x) (sym y)))
+    go (inr a) f = later-there (received r j c) (f a)
 
 module _ (s : State) (cut : List ℕ) where
   -- ---- which messages are listed

@@ -4,9 +4,10 @@ ghost use mathlib.Core.Bool.{cond};
 ghost use Prim.Native.Nat.{_+_, _*_, _≤_};
 ghost use Rattle.xdr.specs.Words.{word};
 ghost use Rattle.rules.specs.Records.{history, carried};
-ghost use Rattle.rules.specs.Table.{sectionOf, decoded};
+ghost use Rattle.rules.specs.Table.{heading, sectionOf, decoded};
 ghost use Rattle.rules.specs.Steps.{checkpoint, send, receipt};
 ghost use Rattle.rules.specs.Calls.{first};
+ghost use Rattle.tables.specs.Sections.{SendsLaid};
 ghost use Rattle.rows.specs.Rows.{actRows, pairRows, receiptRowsAt, SectionIn, stepRow};
 
 // The first row met, as far as the table, an area that wants `want` bytes and the acting process go, or 0.
@@ -89,7 +90,7 @@ fn needed(forces: bool) -> usize
 
 // Message k of q, whose section starts at word `from`, to p, whose section starts at word `at`.
 fn message_row(t: &[u8], e: usize, at: usize, from: usize, p: usize, q: usize, k: usize) -> Message
-    requires { ⌜ (e ≤ 1024) × SectionIn (now t) e at × SectionIn (now t) e from ⌝ }
+    requires { ⌜ (e ≤ 1024) × SectionIn (now t) e at × SectionIn (now t) e from × SendsLaid (word (now t)) (from + heading) (word (now t) from) ⌝ }
     ensures { λ r. ⌜ (r .row ≡ first (receiptRowsAt (now (t .entry)) e at from p q k)) × (r .row ≡ 0 → r .carried ≡ carried (sectionOf (word (now (t .entry))) from) k) ⌝ }
 {
     let c = xdr::get_usize(t, at);

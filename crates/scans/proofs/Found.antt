@@ -8,9 +8,10 @@ use native.Mathlib.Omega.{arith}
 use lib.Dec.{eqb, leb, ltb}
 use lib.ListN.{length}
 use borrow.Author.Tests.{ltb-true, lt-ltb, le-leb, lt-leb, leb-false, eqb-true, eqb-false, eq-eqb, ne-eqb}
-use Rattle.rules.specs.Records.{Event, basic, forced, sent, received, History, number, sends, hasReceipt}
+use Rattle.rules.specs.Records.{Event, basic, forced, sent, received, History, sends, hasReceipt}
 use Rattle.rules.specs.Table.{width, eventAt, recordsAt}
 use Rattle.rules.specs.Lines.{atLeast, numbered}
+use Rattle.tables.specs.Sections.{SendsLaid}
 use Rattle.scans.specs.Sends.{Answers}
 use Rattle.basics.proofs.Older.{Older, same, newer}
 use Rattle.basics.proofs.Booleans.{Test, passes, fails, test, or-false, or-right}
@@ -84,53 +85,63 @@ send-none k = (go (test (ltb 0 k)), refl, refl)
     go (passes p) = let l = ltb-true 0 k p in rw (p, lt-leb k 0 l)
     go (fails p) = rw p
 
--- record i, before which there are s sends and after which there are n
-module _ (w : ℕ → ℕ) (at i k : ℕ) {kind a s n m : ℕ} (x : kind ≡ w (at + width * i)) (y : a ≡ w (at + width * i + 1))
-    (e : m ≡ number (recordsAt w at i)) (f : s ≡ sends (recordsAt w at i)) (u : n ≡ cond (eqb kind 3) (s + 1) s) where
-  after : n ≡ sends (recordsAt w at (i + 1))
-  after = sends-next w at i x f u
+-- record i, of which the words kind and b were read
+module _ (w : ℕ → ℕ) (at i k : ℕ) {kind b c : ℕ} (x : kind ≡ w (at + width * i)) (z : b ≡ w (at + width * i + 2)) (l : i < c)
+    (laid : SendsLaid w at c) where
+  abbrev s : ℕ
+  s = sends (recordsAt w at i)
 
   -- whether it is send k
-  hit : (eqb kind 3 && eqb n k) ≡ (eqb kind 3 && eqb k (s + 1))
+  hit : (eqb kind 3 && eqb b k) ≡ (eqb kind 3 && eqb k (s + 1))
   hit = go (test (eqb kind 3)) (test (eqb k (s + 1)))
     where
-      go : Test (eqb kind 3) → Test (eqb k (s + 1)) → (eqb kind 3 && eqb n k) ≡ (eqb kind 3 && eqb k (s + 1))
-      go (passes p) (passes q) = let r : n ≡ s + 1 = rw p at u in let l = eqb-true k (s + 1) q in rw (p, q, eq-eqb n k (omega arith))
-      go (passes p) (fails q) = let r : n ≡ s + 1 = rw p at u in let l = eqb-false k (s + 1) q in rw (p, q, ne-eqb n k (omega arith))
+      go : Test (eqb kind 3) → Test (eqb k (s + 1)) → (eqb kind 3 && eqb b k) ≡ (eqb kind 3 && eqb k (s + 1))
+      go (passes p) (passes q) =
+          let r = laid i l (sym x ∙ eqb-true kind 3 p) .0 in
+          let e = eqb-true k (s + 1) q in
+          rw (p, q, eq-eqb b k (omega arith))
+      go (passes p) (fails q) =
+          let r = laid i l (sym x ∙ eqb-true kind 3 p) .0 in
+          let e = eqb-false k (s + 1) q in
+          rw (p, q, ne-eqb b k (omega arith))
       go (fails p) q = rw p
 
-  pub send-found : {c : ℕ} → i < c → (eqb kind 3 && eqb n k) ≡ true → Answers k (recordsAt w at c) true m a
-  send-found {c} l t =
+  -- the sends after it
+  after : (n : ℕ) → n ≡ cond (eqb kind 3) (s + 1) s → n ≡ sends (recordsAt w at (i + 1))
+  after n u = sends-next w at i x refl u
+
+  pub send-found : {a m : ℕ} → a ≡ w (at + width * i + 1) → m ≡ w (at + width * i + 3) → (eqb kind 3 && eqb b k) ≡ true
+      → Answers k (recordsAt w at c) true m a
+  send-found y u t =
       let o = first-older w at (i + 1) c (omega arith) in
-      let v = after in
-      let j = eqb-true n k (and-eq-true-iff (eqb kind 3) (eqb n k) .0 t .1) in
-      let d = eqb-true k (s + 1) (and-eq-true-iff (eqb kind 3) (eqb k (s + 1)) .0 (sym hit ∙ t) .1) in
+      let is = and-eq-true-iff (eqb kind 3) (eqb k (s + 1)) .0 (sym hit ∙ t) in
+      let e = eqb-true kind 3 (is .0) in
+      let d = eqb-true k (s + 1) (is .1) in
+      let v = after (s + 1) (rw (is .0) refl) in
       let le : k ≤ sends (recordsAt w at (i + 1)) = omega arith in
-      let b = sends-older o in (
+      let f = sends-older o in (
         rw (lt-ltb 0 k (omega arith), le-leb k (sends (recordsAt w at c)) (omega arith)),
-        carried-next w at i x k e f refl (rw (← hit, t)) ∙ sym (carried-older o k le),
-        destination-next w at i x y k f refl (rw (← hit, t)) ∙ sym (destination-older o k le),
+        u ∙ laid i l (sym x ∙ e) .1 ∙ carried-next w at i x k refl refl refl (rw (← hit, t)) ∙ sym (carried-older o k le),
+        destination-next w at i x y k refl refl (rw (← hit, t)) ∙ sym (destination-older o k le),
       )
 
-  pub send-passed : (eqb kind 3 && eqb n k) ≡ false → Answers k (recordsAt w at i) false 0 0 → Answers k (recordsAt w at (i + 1)) false 0 0
+  pub send-passed : (eqb kind 3 && eqb b k) ≡ false → Answers k (recordsAt w at i) false 0 0 → Answers k (recordsAt w at (i + 1)) false 0 0
   send-passed t g = (
     go (test (ltb 0 k)) (test (eqb kind 3)),
-    carried-next w at i x k e f (g .1) (rw (← hit, t)),
-    destination-next w at i x y k f (g .2) (rw (← hit, t)),
+    carried-next w at i x k refl refl (g .1) (rw (← hit, t)),
+    destination-next w at i x refl k refl (g .2) (rw (← hit, t)),
   )
     where
       go : Test (ltb 0 k) → Test (eqb kind 3) → false ≡ (ltb 0 k && leb k (sends (recordsAt w at (i + 1))))
       go (fails p) q = rw p
       go (passes p) (passes q) =
-          let l = leb-false k (sends (recordsAt w at i)) (sym (rw p at (g .0))) in
-          let ne = eqb-false n k (rw q at t) in
-          let r : n ≡ s + 1 = rw q at u in
-          let v = after in
+          let l = leb-false k s (sym (rw p at (g .0))) in
+          let ne = eqb-false k (s + 1) (rw q at (sym hit ∙ t)) in
+          let v = after (s + 1) (rw q refl) in
           rw (p, lt-leb k (sends (recordsAt w at (i + 1))) (omega arith))
       go (passes p) (fails q) =
-          let l = leb-false k (sends (recordsAt w at i)) (sym (rw p at (g .0))) in
-          let r : n ≡ s = rw q at u in
-          let v = after in
+          let l = leb-false k s (sym (rw p at (g .0))) in
+          let v = after s (rw q refl) in
           rw (p, lt-leb k (sends (recordsAt w at (i + 1))) (omega arith))
 
 -- ---- a receipt of (q, k)
@@ -141,7 +152,7 @@ module _ (q k : ℕ) where
   receipt-older (newer {e = basic m} o) t = receipt-older o t
   receipt-older (newer {e = forced m} o) t = receipt-older o t
   receipt-older (newer {e = sent d} o) t = receipt-older o t
-  receipt-older (newer {e = received r j} {g} o) t = or-right (eqb r q && eqb j k) (hasReceipt g q k) (receipt-older o t)
+  receipt-older (newer {e = received r j c} {g} o) t = or-right (eqb r q && eqb j k) (hasReceipt g q k) (receipt-older o t)
 
   -- record i, before which there is none
   module _ (w : ℕ → ℕ) (at i : ℕ) {kind a b : ℕ} (x : kind ≡ w (at + width * i)) (y : a ≡ w (at + width * i + 1)) (z : b ≡ w (at + width * i + 2))

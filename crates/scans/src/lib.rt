@@ -1,19 +1,13 @@
 // Scans of a section's records, oldest first. Each ends where it has found what it looks for.
 ghost use mathlib.Core.Path.{_≡_};
-ghost use mathlib.Core.Bool.{cond};
 ghost use Prim.Native.Nat.{_+_, _*_, _≤_};
 ghost use lib.ListN.{length};
 ghost use Rattle.xdr.specs.Words.{word};
 ghost use Rattle.rules.specs.Records.{hasReceipt};
 ghost use Rattle.rules.specs.Table.{width, recordsAt};
 ghost use Rattle.rules.specs.Lines.{numbered};
+ghost use Rattle.tables.specs.Sections.{SendsLaid};
 ghost use Rattle.scans.specs.Sends.{Answers};
-
-fn pick(t: bool, x: u32, y: u32) -> u32
-    ensures { λ r. ⌜ r ≡ cond t x y ⌝ }
-{
-    if t { x } else { y }
-}
 
 // Whether send k is there, the number that it carries and its destination: 0 and 0 where it is not.
 pub struct Sent {
@@ -22,27 +16,21 @@ pub struct Sent {
     pub to: u32,
 }
 
-// Send k among the first c records from word `at` on.
+// Send k among the first c records from word `at` on. In a well laid table a send's own words tell its number and what it carries.
 pub fn find_send(t: &[u8], at: usize, c: usize, k: usize) -> Sent
-    requires { ⌜ (c ≤ 1024) × (4 * (at + width * c) ≤ length (now t)) ⌝ }
+    requires { ⌜ (c ≤ 1024) × (4 * (at + width * c) ≤ length (now t)) × SendsLaid (word (now t)) at c ⌝ }
     ensures { λ r. ⌜ Answers k (recordsAt (word (now (t .entry))) at c) (r .found) (r .carried) (r .to) ⌝ }
 {
-    let mut number: u32 = 0;
-    let mut sends: usize = 0;
     let mut i: usize = 0;
     while i < c {
         let w = at + shape::WIDTH * i;
-        let kind = xdr::get(t, w);
-        let a = xdr::get(t, w + 1);
-        sends = shape::pick(kind == 3, sends + 1, sends);
-        if (kind == 3) & (sends == k) {
+        if (xdr::get_usize(t, w) == 3) & (xdr::get_usize(t, w + 2) == k) {
             return Sent {
                 found: true,
-                carried: number,
-                to: a,
+                carried: xdr::get(t, w + 3),
+                to: xdr::get(t, w + 1),
             };
         }
-        number = pick((kind == 4) | (kind == 3), number, a);
         i += 1;
     }
     Sent {

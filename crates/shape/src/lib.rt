@@ -7,8 +7,8 @@ ghost use Rattle.rules.specs.Table.{inRange, size, start as startOf, mostWords}
 // The words of a section before its records: count, number, sends.
 pub const HEADING: usize = 3;
 
-// The words of a record: kind, a, b.
-pub const WIDTH: usize = 3;
+// The words of a record: kind, a, b, and what a send or receipt carries.
+pub const WIDTH: usize = 4;
 
 // Whether n and e are in their ranges.
 pub fn in_range(n: usize, e: usize) -> bool

@@ -42,8 +42,8 @@ accepted t a bt p call e z ws same s o =
     (o ∙ ap (putWords a 0) same)
 
 -- one record, stored
-one-stored : (t : List ℕ) (p : ℕ) (h : History) (ev : Event) {at x s kind a b : ℕ} → at ≡ start (word t 1) p → word t at ≡ length h
-    → x ≡ number (ev ∷ h) → s ≡ sends (ev ∷ h) → recordWords ev h ≡ kind ∷ a ∷ b ∷ [] → withRecord t at x s kind a b ≡ stored (word t 1) t p h (ev ∷ [])
+one-stored : (t : List ℕ) (p : ℕ) (h : History) (ev : Event) {at x s kind a b m : ℕ} → at ≡ start (word t 1) p → word t at ≡ length h
+    → x ≡ number (ev ∷ h) → s ≡ sends (ev ∷ h) → recordWords ev h ≡ kind ∷ a ∷ b ∷ m ∷ [] → withRecord t at x s kind a b m ≡ stored (word t 1) t p h (ev ∷ [])
 unfolding stored
 one-stored t p h ev i c x s r = rw (c, add-comm (length h) 1, i, x, s, r)
 
@@ -51,15 +51,15 @@ one-stored t p h ev i c x s r = rw (c, add-comm (length h) 1, i, x, s, r)
 receipt-stored : (t : List ℕ) (p : ℕ) (h : History) (m q k : ℕ) {at : ℕ} → at ≡ start (word t 1) p → word t at ≡ length h
     → word t (at + 1) ≡ number h → word t (at + 2) ≡ sends h
     → withReceipt t at m q k
-    ≡ stored (word t 1) t p h (received q k ∷ cond (ltb (number h) m) (forced m ∷ []) [])
+    ≡ stored (word t 1) t p h (received q k m ∷ cond (ltb (number h) m) (forced m ∷ []) [])
 unfolding stored
 receipt-stored t p h m q k {at} i c x s = rw (x, s) (go (ltb (number h) m))
   where
     go : (b : Bool)
-        → cond b (withForced t at (sends h) m q k) (withRecord t at (number h) (sends h) 4 q k)
-        ≡ stored (word t 1) t p h (received q k ∷ cond b (forced m ∷ []) [])
+        → cond b (withForced t at (sends h) m q k) (withRecord t at (number h) (sends h) 4 q k m)
+        ≡ stored (word t 1) t p h (received q k m ∷ cond b (forced m ∷ []) [])
     go true = rw (c, add-comm (length h) 2, i)
-    go false = one-stored t p h (received q k) i c refl refl refl
+    go false = one-stored t p h (received q k m) i c refl refl refl
 
 -- ---- what a step that meets no row finds in the table
 
@@ -94,7 +94,7 @@ module _ (t a : List ℕ) (bt : Bytes t) (p : ℕ) {E at x s : ℕ} (i : E ≡ w
   at-start : at ≡ start (word t 1) p
   at-start = rw (← i) j
 
-  pub checkpoint-done : {r : ℕ} {u b : List ℕ} → r ≡ stepRow t p checkpoint (length a) → r ≡ 0 → u ≡ withRecord t at (x + 1) s 1 (x + 1) 0 → b ≡ putWord a 0 (x + 1)
+  pub checkpoint-done : {r : ℕ} {u b : List ℕ} → r ≡ stepRow t p checkpoint (length a) → r ≡ 0 → u ≡ withRecord t at (x + 1) s 1 (x + 1) 0 0 → b ≡ putWord a 0 (x + 1)
       → outcome 0 u b ≡ stepOn t a p checkpoint
   checkpoint-done e z v w =
       let H = ready t a bt p checkpoint e z i j .own in
@@ -103,7 +103,7 @@ module _ (t a : List ℕ) (bt : Bytes t) (p : ℕ) {E at x s : ℕ} (i : E ≡ w
       accepted t a bt p checkpoint e z ((x + 1) ∷ []) (rw n)
       (v ∙ one-stored t p h (basic (suc (number h))) at-start (H .count) n (g ∙ H .sent) (rw n)) (one-put a (x + 1) w)
 
-  pub send-done : (q : ℕ) {r : ℕ} {u b : List ℕ} → r ≡ stepRow t p (send q) (length a) → r ≡ 0 → u ≡ withRecord t at x (s + 1) 3 q (s + 1)
+  pub send-done : (q : ℕ) {r : ℕ} {u b : List ℕ} → r ≡ stepRow t p (send q) (length a) → r ≡ 0 → u ≡ withRecord t at x (s + 1) 3 q (s + 1) x
       → b ≡ putWords a 0 ((s + 1) ∷ x ∷ [])
       → outcome 0 u b ≡ stepOn t a p (send q)
   send-done q e z v w =
@@ -111,7 +111,7 @@ module _ (t a : List ℕ) (bt : Bytes t) (p : ℕ) {E at x s : ℕ} (i : E ≡ w
       let h = history (decoded t) p in
       let n : s + 1 ≡ suc (sends h) = rw (g, H .sent, add-one) refl in
       accepted t a bt p (send q) e z ((s + 1) ∷ x ∷ []) (rw (n, f, H .current))
-      (v ∙ one-stored t p h (sent q) at-start (H .count) (f ∙ H .current) n (rw n)) w
+      (v ∙ one-stored t p h (sent q) at-start (H .count) (f ∙ H .current) n (rw (n, f, H .current))) w
 
 pub receipt-done : (t a : List ℕ) → Bytes t → (p q k : ℕ) {r E at m y : ℕ} {u b : List ℕ} → E ≡ word t 1 → at ≡ start E p
     → r ≡ stepRow t p (receipt q k) (length a) → r ≡ 0 → m ≡ carried (history (decoded t) q) k

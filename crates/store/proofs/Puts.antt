@@ -5,22 +5,29 @@ use mathlib.Core.List.{List, [], _∷_}
 use Prim.Native.Nat.{ℕ, _+_, _*_, _≤_, _<_}
 use lib.Dec.{ltb}
 use borrow.Author.Tests.{lt-ltb, le-ltb}
-use Rattle.xdr.specs.Words.{word, putWords}
+use Rattle.xdr.specs.Words.{word, putWord, putWords}
 use Rattle.rules.specs.Table.{heading, width}
 use Rattle.xdr.proofs.Puts.{put-append}
 use Rattle.store.specs.Added.{withRecord, withForced, withReceipt}
 
-module _ (t : List ℕ) (at s : ℕ) {c : ℕ} {t₁ : List ℕ} (r : c ≡ word t at) where
-  pub record-put : (x kind a b : ℕ) {t₂ : List ℕ} → t₁ ≡ putWords t at ((c + 1) ∷ x ∷ s ∷ []) → t₂ ≡ putWords t₁ (at + heading + width * c) (kind ∷ a ∷ b ∷ [])
-      → t₂ ≡ withRecord t at x s kind a b
-  record-put x kind a b h i = rw (i, h, r)
+-- the four words of a record
+pub words-put : (t : List ℕ) (i kind a b c : ℕ) {t₁ t₂ : List ℕ} → t₁ ≡ putWords t i (kind ∷ a ∷ b ∷ []) → t₂ ≡ putWord t₁ (i + 3) c
+    → t₂ ≡ putWords t i (kind ∷ a ∷ b ∷ c ∷ [])
+unfolding putWords
+words-put t i kind a b c e f = f ∙ ap (λ (u : List ℕ). putWord u (i + 3) c) e ∙ put-append t i (kind ∷ a ∷ b ∷ []) (c ∷ []) refl
 
-  pub forced-put : (m q k : ℕ) {t₂ t₃ : List ℕ} → t₁ ≡ putWords t at ((c + 2) ∷ m ∷ s ∷ []) → t₂ ≡ putWords t₁ (at + heading + width * c) (2 ∷ m ∷ 0 ∷ [])
-      → t₃ ≡ putWords t₂ (at + heading + width * c + width) (4 ∷ q ∷ k ∷ []) → t₃ ≡ withForced t at s m q k
+module _ (t : List ℕ) (at s : ℕ) {c : ℕ} {t₁ : List ℕ} (r : c ≡ word t at) where
+  pub record-put : (x kind a b m : ℕ) {t₂ : List ℕ} → t₁ ≡ putWords t at ((c + 1) ∷ x ∷ s ∷ [])
+      → t₂ ≡ putWords t₁ (at + heading + width * c) (kind ∷ a ∷ b ∷ m ∷ [])
+      → t₂ ≡ withRecord t at x s kind a b m
+  record-put x kind a b m h i = rw (i, h, r)
+
+  pub forced-put : (m q k : ℕ) {t₂ t₃ : List ℕ} → t₁ ≡ putWords t at ((c + 2) ∷ m ∷ s ∷ []) → t₂ ≡ putWords t₁ (at + heading + width * c) (2 ∷ m ∷ 0 ∷ 0 ∷ [])
+      → t₃ ≡ putWords t₂ (at + heading + width * c + width) (4 ∷ q ∷ k ∷ m ∷ []) → t₃ ≡ withForced t at s m q k
   forced-put m q k {t₂} h i j =
       j
-      ∙ ap (λ (u : List ℕ). putWords u (at + heading + width * c + width) (4 ∷ q ∷ k ∷ [])) i
-      ∙ put-append t₁ (at + heading + width * c) (2 ∷ m ∷ 0 ∷ []) (4 ∷ q ∷ k ∷ []) refl
+      ∙ ap (λ (u : List ℕ). putWords u (at + heading + width * c + width) (4 ∷ q ∷ k ∷ m ∷ [])) i
+      ∙ put-append t₁ (at + heading + width * c) (2 ∷ m ∷ 0 ∷ 0 ∷ []) (4 ∷ q ∷ k ∷ m ∷ []) refl
       ∙ rw (h, r)
 
 -- a receipt that forces, and one that doesn't
@@ -30,7 +37,7 @@ module _ (t : List ℕ) (at m q k : ℕ) {x s : ℕ} {u : List ℕ} (h : x ≡ w
       × (u ≡ withReceipt t at m q k)
   forcing l e = (rw (← h, lt-ltb x m l), rw (← h, lt-ltb x m l, ← i) e)
 
-  pub not-forcing : m ≤ x → u ≡ withRecord t at x s 4 q k
+  pub not-forcing : m ≤ x → u ≡ withRecord t at x s 4 q k m
       → (_≡_ {A = ℕ} 0 (cond (ltb (word t (at + 1)) m) 1 0))
       × (u ≡ withReceipt t at m q k)
   not-forcing l e = (rw (← h, le-ltb x m l), rw (← h, le-ltb x m l, ← i) e)

@@ -9,17 +9,18 @@ ghost use Rattle.rules.specs.Table.{heading, width, mostWords};
 ghost use Rattle.store.specs.Added.{withRecord, withForced, forcesAt, withReceipt};
 
 // The words of a record that starts at word i.
-fn put_record(t: &mut [u8], i: usize, kind: u32, a: u32, b: u32)
+fn put_record(t: &mut [u8], i: usize, kind: u32, a: u32, b: u32, c: u32)
     requires { ⌜ 4 * (i + width) ≤ length (now t) ⌝ }
-    ensures { λ _. ⌜ now (t .exit) ≡ putWords (now (t .entry)) i (kind ∷ a ∷ b ∷ []) ⌝ }
+    ensures { λ _. ⌜ now (t .exit) ≡ putWords (now (t .entry)) i (kind ∷ a ∷ b ∷ c ∷ []) ⌝ }
 {
     xdr::put_three(t, i, kind, a, b);
+    xdr::put(t, i + 3, c);
 }
 
-// One record; x and s are the section's number and count of sends after it.
-pub fn add_record(t: &mut [u8], at: usize, x: u32, s: u32, kind: u32, a: u32, b: u32)
+// One record; x and s are the section's number and count of sends after it, and m is what it carries.
+pub fn add_record(t: &mut [u8], at: usize, x: u32, s: u32, kind: u32, a: u32, b: u32, m: u32)
     requires { ⌜ (at ≤ mostWords) × (word (now t) at ≤ 1024) × (4 * (at + heading + width * (word (now t) at + 1)) ≤ length (now t)) ⌝ }
-    ensures { λ _. ⌜ now (t .exit) ≡ withRecord (now (t .entry)) at x s kind a b ⌝ }
+    ensures { λ _. ⌜ now (t .exit) ≡ withRecord (now (t .entry)) at x s kind a b m ⌝ }
 {
     let c = xdr::get(t, at);
     xdr::put_three(t, at, c + 1, x, s);
@@ -29,10 +30,11 @@ pub fn add_record(t: &mut [u8], at: usize, x: u32, s: u32, kind: u32, a: u32, b:
         kind,
         a,
         b,
+        m,
     );
 }
 
-// A forced checkpoint with number m, then the receipt of (q, k).
+// A forced checkpoint with number m, then the receipt of (q, k), which carries m.
 fn add_forced(t: &mut [u8], at: usize, s: u32, m: u32, q: u32, k: u32)
     requires { ⌜ (at ≤ mostWords) × (word (now t) at ≤ 1024) × (4 * (at + heading + width * (word (now t) at + 2)) ≤ length (now t)) ⌝ }
     ensures { λ _. ⌜ now (t .exit) ≡ withForced (now (t .entry)) at s m q k ⌝ }
@@ -40,8 +42,8 @@ fn add_forced(t: &mut [u8], at: usize, s: u32, m: u32, q: u32, k: u32)
     let c = xdr::get(t, at);
     let w = at + shape::HEADING + shape::WIDTH * (c as usize);
     xdr::put_three(t, at, c + 2, m, s);
-    put_record(t, w, 2, m, 0);
-    put_record(t, w + shape::WIDTH, 4, q, k);
+    put_record(t, w, 2, m, 0, 0);
+    put_record(t, w + shape::WIDTH, 4, q, k, m);
 }
 
 // The receipt of (q, k), which carries m; returns 1 if it forces a checkpoint, else 0.
@@ -55,7 +57,7 @@ pub fn add_receipt(t: &mut [u8], at: usize, m: u32, q: u32, k: u32) -> u32
         add_forced(t, at, s, m, q, k);
         return 1;
     }
-    add_record(t, at, x, s, 4, q, k);
+    add_record(t, at, x, s, 4, q, k, m);
     0
 }
 

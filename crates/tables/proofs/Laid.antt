@@ -24,17 +24,24 @@ abbrev pub Law : ℕ → ℕ → ℕ → Event → History → Type 0
 Law n E p (basic m) h = m ≤ n * E
 Law n E p (forced m) h = m ≤ n * E
 Law n E p (sent q) h = (q < n) × (q ≢ p) × (suc (sends h) ≤ E)
-Law n E p (received q k) h = (q < n) × (q ≢ p) × (0 < k) × (k ≤ E)
+Law n E p (received q k c) h = (q < n) × (q ≢ p) × (0 < k) × (k ≤ E) × (c ≤ number h)
 
 abbrev pub Legal : ℕ → ℕ → ℕ → History → Type 0
 Legal n E p = Each (Law n E p)
+
+pub legal-number : (n E p : ℕ) (h : History) → Legal n E p h → number h ≤ n * E
+legal-number n E p [] L = zero-le
+legal-number n E p (basic m ∷ h) L = L .0
+legal-number n E p (forced m ∷ h) L = L .0
+legal-number n E p (sent q ∷ h) L = legal-number n E p h (L .1)
+legal-number n E p (received q k c ∷ h) L = legal-number n E p h (L .1)
 
 pub sends-length : (h : History) → sends h ≤ length h
 sends-length [] = zero-le
 sends-length (basic m ∷ h) = let r = sends-length h in omega arith
 sends-length (forced m ∷ h) = let r = sends-length h in omega arith
 sends-length (sent q ∷ h) = let r = sends-length h in omega arith
-sends-length (received q k ∷ h) = let r = sends-length h in omega arith
+sends-length (received q k c ∷ h) = let r = sends-length h in omega arith
 
 module _ (n E : ℕ) (s : State) (M : Sound n E s) where
   number-part : (p : ℕ) (h : History) → Older h (history s p) → number h ≤ n * E
@@ -49,11 +56,11 @@ module _ (n E : ℕ) (s : State) (M : Sound n E s) where
   law-part p (sent q) h o =
       let N = each-older (Name n p) o (M .named p) .0 in
       (N .0, N .1, sends-part p (sent q ∷ h) o)
-  law-part p (received q k) h o =
+  law-part p (received q k c) h o =
       let N = each-older (Name n p) o (M .named p) .0 in
       let S = each-older (Source s p) o (M .sourced p) .0 in
       let H = holds-held (history s q) p k (S .0) in
-      (N .0, N .1, H .positive, le-trans (H .counted) (sends-part q (history s q) same))
+      (N .0, N .1, H .positive, le-trans (H .counted) (sends-part q (history s q) same), S .2)
 
   legal-part : (p : ℕ) (h : History) → Older h (history s p) → Legal n E p h
   legal-part p [] o = tt
@@ -68,7 +75,7 @@ pub record-length : (e : Event) (h : History) → length (recordWords e h) ≡ w
 record-length (basic m) h = refl
 record-length (forced m) h = refl
 record-length (sent q) h = refl
-record-length (received q k) h = refl
+record-length (received q k c) h = refl
 
 pub used-length : (h : History) → length (usedWords h) ≡ width * length h
 used-length [] = refl
@@ -85,7 +92,8 @@ event-at : (w : ℕ → ℕ) (i : ℕ) (e : Event) (h : History) → At w i (rec
 event-at w i (basic m) h a = rw (first-at w i (recordWords (basic m) h) (omega arith) a, a 1 (omega arith))
 event-at w i (forced m) h a = rw (first-at w i (recordWords (forced m) h) (omega arith) a, a 1 (omega arith))
 event-at w i (sent q) h a = rw (first-at w i (recordWords (sent q) h) (omega arith) a, a 1 (omega arith))
-event-at w i (received q k) h a = rw (first-at w i (recordWords (received q k) h) (omega arith) a, a 1 (omega arith), a 2 (omega arith))
+event-at w i (received q k c) h a =
+    rw (first-at w i (recordWords (received q k c) h) (omega arith) a, a 1 (omega arith), a 2 (omega arith), a 3 (omega arith))
 
 pub records-at : (w : ℕ → ℕ) (at : ℕ) (h : History) → At w at (usedWords h) → recordsAt w at (length h) ≡ h
 records-at w at [] a = refl
@@ -96,28 +104,34 @@ records-at w at (e ∷ h) a =
 -- ---- records are well laid
 
 record-ok : (n E p : ℕ) (w : ℕ → ℕ) (i : ℕ) (e : Event) (h : History) → At w i (recordWords e h) → Law n E p e h → recordOkAt n E p h w i ≡ true
-record-ok n E p w i (basic m) h a L = rw (first-at w i (recordWords (basic m) h) (omega arith) a, a 1 (omega arith), a 2 (omega arith), le-leb m (n * E) L)
-record-ok n E p w i (forced m) h a L = rw (first-at w i (recordWords (forced m) h) (omega arith) a, a 1 (omega arith), a 2 (omega arith), le-leb m (n * E) L)
+record-ok n E p w i (basic m) h a L =
+    rw (first-at w i (recordWords (basic m) h) (omega arith) a, a 1 (omega arith), a 2 (omega arith), a 3 (omega arith), le-leb m (n * E) L)
+record-ok n E p w i (forced m) h a L =
+    rw (first-at w i (recordWords (forced m) h) (omega arith) a, a 1 (omega arith), a 2 (omega arith), a 3 (omega arith), le-leb m (n * E) L)
 record-ok n E p w i (sent q) h a L =
     rw (
       first-at w i (recordWords (sent q) h) (omega arith) a,
       a 1 (omega arith),
       a 2 (omega arith),
+      a 3 (omega arith),
       lt-ltb q n (L .0),
       ne-eqb q p (L .1),
       lt-ltb 0 (suc (sends h)) (omega arith),
       le-leb (suc (sends h)) E (L .2),
       eq-eqb (suc (sends h)) (suc (sends h)) refl,
+      eq-eqb (number h) (number h) refl,
     )
-record-ok n E p w i (received q k) h a L =
+record-ok n E p w i (received q k c) h a L =
     rw (
-      first-at w i (recordWords (received q k) h) (omega arith) a,
+      first-at w i (recordWords (received q k c) h) (omega arith) a,
       a 1 (omega arith),
       a 2 (omega arith),
+      a 3 (omega arith),
       lt-ltb q n (L .0),
       ne-eqb q p (L .1),
       lt-ltb 0 k (L .2),
       le-leb k E (L .3),
+      le-leb c (number h) (L .4),
     )
 
 records-ok : (n E : ℕ) (w : ℕ → ℕ) (p at : ℕ) (h : History) → At w at (usedWords h) → Legal n E p h → recordsOk n E w p at (length h) ≡ true
@@ -221,16 +235,16 @@ sections-ok n E w s short L a (suc p) le =
 
 -- ---- words fit
 
-small-record : (n E p : ℕ) → n ≤ 16 → E ≤ 1024 → n * E ≤ 16384 → (e : Event) (h : History) → Law n E p e h → Small (recordWords e h)
-small-record n E p a b c (basic m) h L = omega arith
-small-record n E p a b c (forced m) h L = omega arith
-small-record n E p a b c (sent q) h L = let x = L .0 in let y = L .2 in omega arith
-small-record n E p a b c (received q k) h L = let x = L .0 in let y = L .3 in omega arith
+small-record : (n E p : ℕ) → n ≤ 16 → E ≤ 1024 → n * E ≤ 16384 → (e : Event) (h : History) → number h ≤ n * E → Law n E p e h → Small (recordWords e h)
+small-record n E p a b c (basic m) h l L = omega arith
+small-record n E p a b c (forced m) h l L = omega arith
+small-record n E p a b c (sent q) h l L = let x = L .0 in let y = L .2 in omega arith
+small-record n E p a b c (received q k m) h l L = let x = L .0 in let y = L .3 in let z = L .4 in omega arith
 
 small-used : (n E p : ℕ) → n ≤ 16 → E ≤ 1024 → n * E ≤ 16384 → (h : History) → Legal n E p h → Small (usedWords h)
 small-used n E p a b c [] L = tt
 small-used n E p a b c (e ∷ h) L =
-    small-append (usedWords h) (recordWords e h) (small-used n E p a b c h (L .1)) (small-record n E p a b c e h (L .0))
+    small-append (usedWords h) (recordWords e h) (small-used n E p a b c h (L .1)) (small-record n E p a b c e h (legal-number n E p h (L .1)) (L .0))
 
 small-sections : (n E : ℕ) → n ≤ 16 → E ≤ 1024 → n * E ≤ 16384 → (s : State) (p : ℕ)
     → ((q : ℕ) → length (history s q) ≤ E) → ((q : ℕ) → number (history s q) ≤ n * E) → ((q : ℕ) → Legal n E (p + q) (history s q)) → Small (sectionsWords E s)

@@ -17,7 +17,7 @@ use Rattle.rules.specs.Table.{layout, sectionsOk, decoded, size, inRange, wellL
 use Rattle.records.proofs.Histories.{holds-held}
 use Rattle.records.proofs.Rows.{NoneMet}
 use Rattle.records.proofs.Steps.{Message, Accepted, grown-length}
-use Rattle.tables.proofs.Laid.{Legal, sends-length}
+use Rattle.tables.proofs.Laid.{Legal, legal-number, sends-length}
 use Rattle.tables.proofs.Ranges.{InRange, product, in-range}
 use Rattle.tables.proofs.WellLaid.{IsTable, sections-each, section-of, addedWords, decoded-is, decoded-at, decoded-short, from-beyond}
 use Rattle.tables.proofs.Stores.{headWords, stored, stored-layout}
@@ -32,18 +32,11 @@ table-legal n E t T p = go (decLt p n)
     go (yes lt) = rw (decoded-at n E t T p lt) (section-of n E (word t) p (sections-each n E (word t) n (T .laid) p lt) .legal)
     go (no l) = rw (decoded-is n E t T, from-beyond (word t) E 0 n p (omega arith)) tt
 
-pub legal-number : (n E p : ℕ) (h : History) → Legal n E p h → number h ≤ n * E
-legal-number n E p [] L = zero-le
-legal-number n E p (basic m ∷ h) L = L .0
-legal-number n E p (forced m ∷ h) L = L .0
-legal-number n E p (sent q ∷ h) L = legal-number n E p h (L .1)
-legal-number n E p (received q k ∷ h) L = legal-number n E p h (L .1)
-
 pub legal-carried : (n E p : ℕ) (h : History) (k : ℕ) → Legal n E p h → carried h k ≤ n * E
 legal-carried n E p [] k L = zero-le
 legal-carried n E p (basic m ∷ h) k L = legal-carried n E p h k (L .1)
 legal-carried n E p (forced m ∷ h) k L = legal-carried n E p h k (L .1)
-legal-carried n E p (received q j ∷ h) k L = legal-carried n E p h k (L .1)
+legal-carried n E p (received q j c ∷ h) k L = legal-carried n E p h k (L .1)
 legal-carried n E p (sent q ∷ h) k L = go (eqb k (suc (sends h))) (legal-carried n E p h k (L .1))
   where
     go : (b : Bool) → carried h k ≤ n * E → cond b (number h) (carried h k) ≤ n * E
@@ -68,8 +61,8 @@ module _ (n E : ℕ) (d : InRange n E) (s : State) (short : (q : ℕ) → length
 
       received-small : (q k : ℕ) (b : Bool) → length h + cond b 2 1 ≤ E → q < n → k ≤ E → carried (history s q) k ≤ 16384
           → number h ≤ 16384 → sends h ≤ length h → n ≤ 16 → E ≤ 1024
-          → Small (headWords (received q k ∷ cond b (forced (carried (history s q) k) ∷ []) []) h)
-          × Small (addedWords (received q k ∷ cond b (forced (carried (history s q) k) ∷ []) []) h)
+          → Small (headWords (received q k (carried (history s q) k) ∷ cond b (forced (carried (history s q) k) ∷ []) []) h)
+          × Small (addedWords (received q k (carried (history s q) k) ∷ cond b (forced (carried (history s q) k) ∷ []) []) h)
       received-small q k true f m y c a z x g = (omega arith, omega arith)
       received-small q k false f m y c a z x g = (omega arith, omega arith)
 

@@ -16,10 +16,11 @@ use Rattle.rules.specs.Steps.{Call}
 use Rattle.rules.specs.Calls.{areaLength, row, first, tableRows, laterRows, stepRows}
 use Rattle.records.proofs.Rows.{none-met, split-zero, first-unmet}
 use Rattle.records.proofs.Steps.{Accepted, accepted-met}
-use Rattle.tables.proofs.Laid.{sends-length}
+use Rattle.tables.specs.Sections.{SendsLaid}
+use Rattle.tables.proofs.Laid.{legal-number, sends-length}
 use Rattle.tables.proofs.Ranges.{product, in-range}
-use Rattle.tables.proofs.WellLaid.{decoded-at, decoded-words, decoded-short}
-use Rattle.tables.proofs.OneCall.{Valid, valid, table-legal, legal-number, legal-carried}
+use Rattle.tables.proofs.WellLaid.{sections-each, section-of, decoded-at, decoded-words, decoded-short}
+use Rattle.tables.proofs.OneCall.{Valid, valid, table-legal, legal-carried}
 
 -- ---- outcomes
 
@@ -43,6 +44,7 @@ pub record Head (t : List ℕ) (p E at : ℕ) : Type 0 where
   pub current : word t (at + 1) ≡ number (history (decoded t) p)
   pub sent : word t (at + 2) ≡ sends (history (decoded t) p)
   pub events : recordsAt (word t) (at + heading) (word t at) ≡ history (decoded t) p
+  pub told : SendsLaid (word t) (at + heading) (word t at)
   pub short : word t at ≤ E
   pub low : word t (at + 1) ≤ 16384
   pub few : word t (at + 2) ≤ 1024
@@ -87,6 +89,7 @@ head t W p lt {E} {at} e s = rw (s, e) here
           current = x;
           sent = z;
           events = sym (decoded-at n F t (W .is) p lt);
+          told = section-of n F (word t) p (sections-each n F (word t) n (W .is .laid) p lt) .told;
           short = omega arith;
           low = omega arith;
           few = omega arith;

@@ -21,7 +21,7 @@ use Rattle.records.proofs.NumberedLines.{upto-older}
 
 -- a value that is the same for basic and forced checkpoints
 pub event : {A : Type 0} (f : Event → A) (w : ℕ → ℕ) (i : ℕ) → f (forced (w (i + 1))) ≡ f (basic (w (i + 1)))
-    → f (eventAt w i) ≡ cond (eqb (w i) 4) (f (received (w (i + 1)) (w (i + 2)))) (cond (eqb (w i) 3) (f (sent (w (i + 1)))) (f (basic (w (i + 1)))))
+    → f (eventAt w i) ≡ cond (eqb (w i) 4) (f (received (w (i + 1)) (w (i + 2)) (w (i + 3)))) (cond (eqb (w i) 3) (f (sent (w (i + 1)))) (f (basic (w (i + 1)))))
 event {A} f w i e = go (eqb (w i) 4) (eqb (w i) 3) (eqb (w i) 2)
   where
     a : ℕ
@@ -30,8 +30,11 @@ event {A} f w i e = go (eqb (w i) 4) (eqb (w i) 3) (eqb (w i) 2)
     b : ℕ
     b = w (i + 2)
 
+    c : ℕ
+    c = w (i + 3)
+
     go : (x y z : Bool)
-        → f (cond x (received a b) (cond y (sent a) (cond z (forced a) (basic a)))) ≡ cond x (f (received a b)) (cond y (f (sent a)) (f (basic a)))
+        → f (cond x (received a b c) (cond y (sent a) (cond z (forced a) (basic a)))) ≡ cond x (f (received a b c)) (cond y (f (sent a)) (f (basic a)))
     go true y z = refl
     go false true z = refl
     go false false true = e

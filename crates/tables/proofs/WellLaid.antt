@@ -1,7 +1,7 @@
 -- A well laid table is the layout of the records that it holds; and how a section's words change when a record is added.
 use mathlib.Core.Path.{_≡_, refl, sym, ap, _∙_, subst}
 use mathlib.Core.Logic.{_≢_, _⊎_, inl, inr}
-use mathlib.Core.Bool.{true, false, not, _&&_}
+use mathlib.Core.Bool.{Bool, true, false, not, _&&_}
 use mathlib.Core.List.{List, [], _∷_, _++_, append-nil, append-assoc}
 use Prim.Native.Nat.{ℕ, zero, suc, _+_, _-_, _*_, _≤_, _<_, zero-le}
 use native.Mathlib.Nat.{zero-add, not-suc-le-zero, le-of-suc-le-suc}
@@ -13,6 +13,7 @@ use borrow.Author.Tests.{eqb-false, ltb-true, not-true, eqb-true, leb-true}
 use Rattle.rules.specs.Records.{Event, History, State, history, number, sends}
 use Rattle.xdr.specs.Words.{word, bytes}
 use Rattle.rules.specs.Table.{heading, width, recordWords, usedWords, headingWords, sectionWords, sectionsWords, layout, eventOf, eventAt, recordsAt, start, sectionAt, sectionsFrom, recordOk, recordOkAt, recordsOk, zerosAt, sectionOk, sectionsOk, decoded, size}
+use Rattle.tables.specs.Sections.{SendsLaid}
 use Rattle.basics.proofs.Booleans.{Test, passes, fails, test, and-left, and-right}
 use Rattle.tables.proofs.Places.{At, at-left, at-right, at-append}
 use Rattle.tables.proofs.Laid.{Law, Legal, record-length, used-length, section-length, next, sections-length}
@@ -58,22 +59,25 @@ records-length w at (suc i) = ap suc (records-length w at i)
 
 -- the words of the record that starts at word i
 abbrev wordsAt : (ℕ → ℕ) → ℕ → List ℕ
-wordsAt w i = w i ∷ w (i + 1) ∷ w (i + 2) ∷ []
+wordsAt w i = w i ∷ w (i + 1) ∷ w (i + 2) ∷ w (i + 3) ∷ []
 
 own-words : (w : ℕ → ℕ) (i : ℕ) → At w i (wordsAt w i)
 own-words w i zero lt = ap w (omega arith)
 own-words w i (suc zero) lt = refl
 own-words w i (suc (suc zero)) lt = refl
-own-words w i (suc (suc (suc j))) lt = absurd (omega arith)
+own-words w i (suc (suc (suc zero))) lt = refl
+own-words w i (suc (suc (suc (suc j)))) lt = absurd (omega arith)
 
-words-read : (n E p : ℕ) (h : History) (kind a b : ℕ) → recordOk n E p h kind a b ≡ true
-    → (recordWords (eventOf kind a b) h ≡ kind ∷ a ∷ b ∷ []) × Law n E p (eventOf kind a b) h
-words-read n E p h kind a b ok = one (test (eqb kind 1)) (test (eqb kind 2)) (test (eqb kind 3)) (test (eqb kind 4))
+words-read : (n E p : ℕ) (h : History) (kind a b c : ℕ) → recordOk n E p h kind a b c ≡ true
+    → (recordWords (eventOf kind a b c) h ≡ kind ∷ a ∷ b ∷ c ∷ []) × Law n E p (eventOf kind a b c) h
+words-read n E p h kind a b c ok = one (test (eqb kind 1)) (test (eqb kind 2)) (test (eqb kind 3)) (test (eqb kind 4))
   where
     -- a checkpoint
-    saves : (leb a (n * E) && eqb b 0) ≡ true → (a ≤ n * E) × (b ≡ 0)
+    saves : (leb a (n * E) && eqb b 0 && eqb c 0) ≡ true → (a ≤ n * E) × (b ≡ 0) × (c ≡ 0)
     saves o =
-        (leb-true a (n * E) (and-left (leb a (n * E)) (eqb b 0) o), eqb-true b 0 (and-right (leb a (n * E)) (eqb b 0) o))
+        let t = leb a (n * E) in
+        let o′ = and-left (t && eqb b 0) (eqb c 0) o in
+        (leb-true a (n * E) (and-left t (eqb b 0) o′), eqb-true b 0 (and-right t (eqb b 0) o′), eqb-true c 0 (and-right (t && eqb b 0) (eqb c 0) o))
 
     -- a send or a receipt
     names : (ltb a n && not (eqb a p) && ltb 0 b && leb b E) ≡ true → (a < n) × (a ≢ p) × (0 < b) × (b ≤ E)
@@ -90,17 +94,23 @@ words-read n E p h kind a b ok = one (test (eqb kind 1)) (test (eqb kind 2)) (te
         )
 
     one : Test (eqb kind 1) → Test (eqb kind 2) → Test (eqb kind 3) → Test (eqb kind 4)
-        → (recordWords (eventOf kind a b) h ≡ kind ∷ a ∷ b ∷ []) × Law n E p (eventOf kind a b) h
-    one (passes e) y z u = let o = saves (rw e at ok) in rw (eqb-true kind 1 e, o .1) (refl, o .0)
-    one (fails e) (passes y) z u = let o = saves (rw (e, y) at ok) in rw (eqb-true kind 2 y, o .1) (refl, o .0)
+        → (recordWords (eventOf kind a b c) h ≡ kind ∷ a ∷ b ∷ c ∷ []) × Law n E p (eventOf kind a b c) h
+    one (passes e) y z u = let o = saves (rw e at ok) in rw (eqb-true kind 1 e, o .1, o .2) (refl, o .0)
+    one (fails e) (passes y) z u = let o = saves (rw (e, y) at ok) in rw (eqb-true kind 2 y, o .1, o .2) (refl, o .0)
     one (fails e) (fails y) (passes z) u =
         let t = ltb a n && not (eqb a p) && ltb 0 b && leb b E in
-        let o : (t && eqb b (suc (sends h))) ≡ true = rw (e, y, z) at ok in
-        let is = eqb-true b (suc (sends h)) (and-right t (eqb b (suc (sends h))) o) in
-        let m = names (and-left t (eqb b (suc (sends h))) o) in
+        let rank = eqb b (suc (sends h)) in
+        let o : (t && rank && eqb c (number h)) ≡ true = rw (e, y, z) at ok in
+        let o′ = and-left (t && rank) (eqb c (number h)) o in
+        let is = eqb-true b (suc (sends h)) (and-right t rank o′) in
+        let m = names (and-left t rank o′) in
         let le = m .3 in
-        rw (eqb-true kind 3 z) ((rw is), (m .0, m .1, omega arith))
-    one (fails e) (fails y) (fails z) (passes u) = rw (eqb-true kind 4 u) (refl, names (rw (e, y, z, u) at ok))
+        rw (eqb-true kind 3 z) ((rw (is, eqb-true c (number h) (and-right (t && rank) (eqb c (number h)) o))), (m .0, m .1, omega arith))
+    one (fails e) (fails y) (fails z) (passes u) =
+        let t = ltb a n && not (eqb a p) && ltb 0 b && leb b E in
+        let o : (t && leb c (number h)) ≡ true = rw (e, y, z, u) at ok in
+        let m = names (and-left t (leb c (number h)) o) in
+        rw (eqb-true kind 4 u) (refl, (m .0, m .1, m .2, m .3, leb-true c (number h) (and-right t (leb c (number h)) o)))
     one (fails e) (fails y) (fails z) (fails u) =
         let o : false ≡ true = rw (e, y, z, u) at ok in
         absurd (let x : _≡_ {A = ℕ} 0 1 = cc in omega arith)
@@ -108,7 +118,7 @@ words-read n E p h kind a b ok = one (test (eqb kind 1)) (test (eqb kind 2)) (te
 -- a record that passes its test has the words that it was read from, and is within its ranges
 pub record-read : (n E p : ℕ) (w : ℕ → ℕ) (i : ℕ) (h : History) → recordOkAt n E p h w i ≡ true
     → (recordWords (eventAt w i) h ≡ wordsAt w i) × Law n E p (eventAt w i) h
-record-read n E p w i h ok = words-read n E p h (w i) (w (i + 1)) (w (i + 2)) ok
+record-read n E p w i h ok = words-read n E p h (w i) (w (i + 1)) (w (i + 2)) (w (i + 3)) ok
 
 used-of : (n E : ℕ) (w : ℕ → ℕ) (p at i : ℕ) → recordsOk n E w p at i ≡ true → At w at (usedWords (recordsAt w at i))
 used-of n E w p at zero ok = λ j lt. absurd (not-suc-le-zero lt)
@@ -149,7 +159,7 @@ section-words E w at h le a b c used zeros =
     three (suc (suc zero)) lt = c
     three (suc (suc (suc j))) lt = absurd (omega arith)
 
-records-legal : (n E : ℕ) (w : ℕ → ℕ) (p at i : ℕ) → recordsOk n E w p at i ≡ true → Legal n E p (recordsAt w at i)
+pub records-legal : (n E : ℕ) (w : ℕ → ℕ) (p at i : ℕ) → recordsOk n E w p at i ≡ true → Legal n E p (recordsAt w at i)
 records-legal n E w p at zero ok = tt
 records-legal n E w p at (suc i) ok =
     let k = at + width * i in
@@ -159,11 +169,37 @@ records-legal n E w p at (suc i) ok =
       records-legal n E w p at i (and-left (recordsOk n E w p at i) t ok),
     )
 
+records-each : (n E : ℕ) (w : ℕ → ℕ) (p at c : ℕ) → recordsOk n E w p at c ≡ true → (i : ℕ) → i < c
+    → recordOkAt n E p (recordsAt w at i) w (at + width * i) ≡ true
+records-each n E w p at zero ok i lt = absurd (not-suc-le-zero lt)
+records-each n E w p at (suc c) ok i lt = go (decLt i c) (records-each n E w p at c (and-left (recordsOk n E w p at c) (tested c) ok) i)
+  where
+    tested : ℕ → Bool
+    tested j = recordOkAt n E p (recordsAt w at j) w (at + width * j)
+
+    go : Dec (i < c) → (i < c → tested i ≡ true) → tested i ≡ true
+    go (yes l) r = r l
+    go (no l) r = ap tested (let e : i ≡ c = omega arith in e) ∙ and-right (recordsOk n E w p at c) (tested c) ok
+
+-- the words of a send: a search may read there what follows from the records before it
+sends-laid : (n E : ℕ) (w : ℕ → ℕ) (p at c : ℕ) → recordsOk n E w p at c ≡ true → SendsLaid w at c
+sends-laid n E w p at c ok i lt is =
+    let h = recordsAt w at i in
+    let k = at + width * i in
+    let r = ltb (w (k + 1)) n && not (eqb (w (k + 1)) p) && ltb 0 (w (k + 2)) && leb (w (k + 2)) E in
+    let x = eqb (w (k + 2)) (suc (sends h)) in
+    let y = eqb (w (k + 3)) (number h) in
+    let o : (r && x && y) ≡ true = rw is at (records-each n E w p at c ok i lt) in (
+      eqb-true (w (k + 2)) (suc (sends h)) (and-right r x (and-left (r && x) y o)),
+      eqb-true (w (k + 3)) (number h) (and-right (r && x) y o),
+    )
+
 -- what the test of section p says of the history that is read from it
 pub record SectionOf (n E : ℕ) (w : ℕ → ℕ) (p : ℕ) : Type 0 where
   pub short : length (sectionAt w E p) ≤ E
   pub words : At w (start E p) (sectionWords E (sectionAt w E p))
   pub legal : Legal n E p (sectionAt w E p)
+  pub told : SendsLaid w (start E p + heading) (w (start E p))
 
 pub section-of : (n E : ℕ) (w : ℕ → ℕ) (p : ℕ) → sectionOk n E w p ≡ true → SectionOf n E w p
 section-of n E w p ok =
@@ -190,6 +226,7 @@ section-of n E w p ok =
           (used-of n E w p (at + heading) c ok′)
           (rw l (zeros-of w (at + heading + width * c) (width * (E - c)) (and-right (t1 && t2 && t3 && t4) t5 ok)));
       legal = records-legal n E w p (at + heading) c ok′;
+      told = sends-laid n E w p (at + heading) c ok′;
     }
 
 pub sections-each : (n E : ℕ) (w : ℕ → ℕ) (m : ℕ) → sectionsOk n E w m ≡ true → (p : ℕ) → p < m → sectionOk n E w p ≡ true

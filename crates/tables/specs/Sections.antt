@@ -1,7 +1,8 @@
 -- The test of a section in two parts: its count of used records with what is behind them, and its used records with what its heading says
--- of them.
+-- of them. And what it says of the words of a send.
+use mathlib.Core.Path.{_≡_}
 use mathlib.Core.Bool.{Bool, true, _&&_}
-use Prim.Native.Nat.{ℕ, zero, suc, _+_, _-_, _*_}
+use Prim.Native.Nat.{ℕ, zero, suc, _+_, _-_, _*_, _<_}
 use lib.Dec.{eqb, leb}
 use Rattle.rules.specs.Records.{number, sends}
 use Rattle.rules.specs.Table.{heading, width, recordsAt, recordsOk, zerosAt}
@@ -21,3 +22,9 @@ frontOk n E w p at =
     recordsOk n E w p (at + heading) (w at)
     && eqb (w (at + 1)) (number (recordsAt w (at + heading) (w at)))
     && eqb (w (at + 2)) (sends (recordsAt w (at + heading) (w at)))
+
+-- every send among the first c records from word `at` on has its number as its third word and the number that it carries as its fourth
+abbrev pub SendsLaid : (ℕ → ℕ) → ℕ → ℕ → Type 0
+SendsLaid w at c =
+    (i : ℕ) → i < c → w (at + width * i) ≡ 3
+    → (w (at + width * i + 2) ≡ suc (sends (recordsAt w at i))) × (w (at + width * i + 3) ≡ number (recordsAt w at i))

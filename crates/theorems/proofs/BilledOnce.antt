@@ -59,20 +59,20 @@ module _ (v : ℕ → ℕ → ℕ) where
   receivedOf h q k = cond (hasReceipt h q k) (v q k) 0
 
   -- a history without a receipt twice, all of them of messages that the sum is over
-  received-sum : (m : ℕ → ℕ) (n : ℕ) (h : History) → Each New h → ((q k : ℕ) → List·Memᴰ (received q k) h → (q < n) × (0 < k) × (k ≤ m q))
+  received-sum : (m : ℕ → ℕ) (n : ℕ) (h : History) → Each New h → ((q k c : ℕ) → List·Memᴰ (received q k c) h → (q < n) × (0 < k) × (k ≤ m q))
       → sum (map (amountReceived v) h) ≡ sumPairs (receivedOf h) m n
   received-sum m n [] N inside = sym (pairs-none m n (λ q k. 0) (λ q k a b c. refl))
-  received-sum m n (basic x ∷ h) N inside = zero-add _ ∙ received-sum m n h (N .1) (λ q k e. inside q k (List·Memᴰ·tail e))
-  received-sum m n (forced x ∷ h) N inside = zero-add _ ∙ received-sum m n h (N .1) (λ q k e. inside q k (List·Memᴰ·tail e))
-  received-sum m n (sent d ∷ h) N inside = zero-add _ ∙ received-sum m n h (N .1) (λ q k e. inside q k (List·Memᴰ·tail e))
-  received-sum m n (received r j ∷ h) N inside =
-      let i = inside r j (List·Memᴰ·head refl) in
+  received-sum m n (basic x ∷ h) N inside = zero-add _ ∙ received-sum m n h (N .1) (λ q k c e. inside q k c (List·Memᴰ·tail e))
+  received-sum m n (forced x ∷ h) N inside = zero-add _ ∙ received-sum m n h (N .1) (λ q k c e. inside q k c (List·Memᴰ·tail e))
+  received-sum m n (sent d ∷ h) N inside = zero-add _ ∙ received-sum m n h (N .1) (λ q k c e. inside q k c (List·Memᴰ·tail e))
+  received-sum m n (received r j c ∷ h) N inside =
+      let i = inside r j c (List·Memᴰ·head refl) in
       let one = pairs-one m n (onlyOf r j) r j (i .0) (i .1) (i .2) (λ q k ne. one-other r j q k (v q k) ne) ∙ one-itself r j (v r j) in
-      ap₂ _+_ (sym one) (received-sum m n h (N .1) (λ q k e. inside q k (List·Memᴰ·tail e)))
+      ap₂ _+_ (sym one) (received-sum m n h (N .1) (λ q k c e. inside q k c (List·Memᴰ·tail e)))
       ∙ pairs-add m n (onlyOf r j) (receivedOf h)
       ∙ pairs-same m n _ _ (λ q k a b c. go q k (test (eqb r q && eqb j k)))
     where
-      go : (q k : ℕ) → Test (eqb r q && eqb j k) → onlyOf r j q k + receivedOf h q k ≡ receivedOf (received r j ∷ h) q k
+      go : (q k : ℕ) → Test (eqb r q && eqb j k) → onlyOf r j q k + receivedOf h q k ≡ receivedOf (received r j c ∷ h) q k
       go q k (passes e) =
           let i = same-pair r j q k e in
           let z : hasReceipt h q k ≡ false = rw (← i .0, ← i .1) (N .0) in
@@ -86,12 +86,12 @@ module _ (s : State) (cut : List ℕ) (clean : NoOrphan s cut) (new : (p : ℕ) 
   sendsOf q = sends (part s cut q)
 
   -- a receipt inside is of a send inside, to the process that has the receipt
-  send-inside : (p q k : ℕ) → List·Memᴰ (received q k) (part s cut p) → Held (part s cut q) p k
-  send-inside p q k m = holds-held (part s cut q) p k (not-false (hasSend (part s cut q) p k) (clean p (received q k) m))
+  send-inside : (p q k c : ℕ) → List·Memᴰ (received q k c) (part s cut p) → Held (part s cut q) p k
+  send-inside p q k c m = holds-held (part s cut q) p k (not-false (hasSend (part s cut q) p k) (clean p (received q k c) m))
 
-  inside : (p q k : ℕ) → List·Memᴰ (received q k) (part s cut p) → (q < length s) × (0 < k) × (k ≤ sendsOf q)
-  inside p q k m =
-      let H = send-inside p q k m in
+  inside : (p q k c : ℕ) → List·Memᴰ (received q k c) (part s cut p) → (q < length s) × (0 < k) × (k ≤ sendsOf q)
+  inside p q k c m =
+      let H = send-inside p q k c m in
       (sends-within s cut q k (H .positive) (H .counted), H .positive, H .counted)
 
   -- so that only the destination has one
@@ -102,7 +102,7 @@ module _ (s : State) (cut : List ℕ) (clean : NoOrphan s cut) (new : (p : ℕ) 
       d = destination (part s cut q) k
 
       other : (p : ℕ) → p ≢ d → Test (hasReceipt (part s cut p) q k) → cond (hasReceipt (part s cut p) q k) x 0 ≡ 0
-      other p ne (passes e) = absurd (ne (sym (send-inside p q k (receipt-there (part s cut p) q k e) .to)))
+      other p ne (passes e) = let m = receipt-there (part s cut p) q k e in absurd (ne (sym (send-inside p q k (m .0) (m .1) .to)))
       other p ne (fails e) = skips x 0 e
 
       go : Dec (d < length s) → sumBelow (λ p. cond (hasReceipt (part s cut p) q k) x 0) (length s) ≡ cond (got s cut q k) x 0

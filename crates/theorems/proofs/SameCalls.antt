@@ -25,7 +25,7 @@ calls [] = []
 calls (basic m ∷ h) = checkpoint ∷ calls h
 calls (forced m ∷ h) = calls h
 calls (sent q ∷ h) = send q ∷ calls h
-calls (received q k ∷ h) = receipt q k ∷ calls h
+calls (received q k c ∷ h) = receipt q k ∷ calls h
 
 pub calls-grown : (h : History) (call : Call) (c : ℕ) → calls (grown h call c) ≡ call ∷ calls h
 calls-grown h checkpoint c = refl

@@ -35,7 +35,7 @@ abbrev pub amountReceived : (ℕ → ℕ → ℕ) → Event → ℕ
 amountReceived v (basic m) = 0
 amountReceived v (forced m) = 0
 amountReceived v (sent q) = 0
-amountReceived v (received q k) = v q k
+amountReceived v (received q k c) = v q k
 
 abbrev pub allReceived : State → List ℕ → ℕ → (ℕ → ℕ → ℕ) → ℕ
 allReceived s cut n v = sumBelow (λ p. sum (map (amountReceived v) (part s cut p))) n

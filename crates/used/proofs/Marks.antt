@@ -1,5 +1,5 @@
--- The test of two words at once is the record test of document 01. `top`, `rest`, `upper` and `wrap` are powers of two; specs/Marks.antt has them.
-use mathlib.Core.Path.{_≡_, refl, sym, ap, _∙_}
+-- The test of two words at once, and of the fourth, is the record test of document 01. `top`, `rest`, `upper` and `wrap` are powers of two; specs/Marks.antt has them.
+use mathlib.Core.Path.{_≡_, refl, sym, ap, ap₂, _∙_}
 use mathlib.Core.Logic.{_⊎_, inl, inr, _≢_}
 use mathlib.Core.List.{List, [], _∷_}
 use mathlib.Core.Bool.{Bool, true, false, not, cond, _&&_, _||_, and-true, and-false, and-assoc, and-eq-true-iff, false≢true}
@@ -9,15 +9,17 @@ use native.Mathlib.Numerals.{add-one}
 use native.Mathlib.Omega.{arith}
 use lib.Dec.{eqb, leb, ltb}
 use lib.ListN.{getD}
-use lib.Bits.{bitAnd, bitOr, bitXor, and-block, and-high, and-mask, and-zero-r, or-shr, or-mod, and-le-r, xor-add-and, xor-block, xor-lt, xor-shr, xor-zero-r}
-use borrow.Author.Tests.{ltb-true, ltb-false, leb-true, leb-false, eqb-true, eqb-false, lt-ltb, le-ltb, le-leb, eq-eqb, ne-eqb}
+use lib.Bits.{bitAnd, bitOr, bitXor, and-block, and-high, and-mask, and-zero-r, or-shr, or-mod, and-le-l, and-le-r, xor-add-and, xor-block, xor-lt, xor-shr, xor-zero-r}
+use borrow.Author.Tests.{ltb-true, ltb-false, leb-true, leb-false, eqb-true, eqb-false, lt-ltb, le-ltb, le-leb, lt-leb, eq-eqb, ne-eqb}
 use Rattle.rules.specs.Records.{History, number, sends}
 use Rattle.rules.specs.Table.{width, recordsAt, recordOk, recordOkAt, recordsOk}
-use Rattle.basics.proofs.Booleans.{Test, passes, fails, test, and-right, interchange, false-left, false-right}
+use Rattle.basics.proofs.Booleans.{Test, passes, fails, test, and-left, and-right, interchange, false-left, false-right}
 use Rattle.tables.proofs.Ranges.{product}
+use Rattle.tables.proofs.Laid.{legal-number}
+use Rattle.tables.proofs.WellLaid.{records-legal}
 use Rattle.tables.proofs.Scans.{number-next, sends-next as sent-next}
-use Rattle.used.specs.Marks.{clear, kindIndex, rooms, floors, counts, masks, above, below, top, rest, upper, wrap, pairOf}
-use Rattle.basics.proofs.Bits.{or-zero, xor-none, xor-same}
+use Rattle.used.specs.Marks.{clear, kindIndex, rooms, floors, counts, masks, above, below, beyond, top, rest, upper, wrap, pairOf}
+use Rattle.basics.proofs.Bits.{or-zero, xor-zero, xor-none, xor-same}
 
 -- ---- the list of what is added, as it is made
 
@@ -227,6 +229,23 @@ above-none x = go (test (ltb 0 x))
     go (passes h) = let k = ltb-true 0 x h in rw h (lt-ltb (top - x) top (omega arith))
     go (fails h) = let k = ltb-false 0 x h in rw h (le-ltb (top - x) top (omega arith))
 
+-- what is left of a bound less a word
+up-to : (y most : ℕ) → most < top → y < upper → clear ((most + (wrap - y)) % wrap) ≡ leb y most
+up-to y most ml yl = go (test (leb y most))
+  where
+    go : Test (leb y most) → clear ((most + (wrap - y)) % wrap) ≡ leb y most
+    go (passes h) =
+        let k = leb-true y most h in
+        rw (h, eq-eqb ((most + (wrap - y)) % wrap / (top * upper)) 0 (omega arith), eq-eqb ((most + (wrap - y)) % wrap / top % 2) 0 (omega arith))
+    go (fails h) = let k = leb-false y most h in rw h (marked-high ((most + (wrap - y)) % wrap) (omega arith))
+
+at-zero : (x : ℕ) → leb x 0 ≡ eqb x 0
+at-zero x = go (test (eqb x 0))
+  where
+    go : Test (eqb x 0) → leb x 0 ≡ eqb x 0
+    go (passes h) = rw (eqb-true x 0 h)
+    go (fails h) = let k = eqb-false x 0 h in rw h (lt-leb x 0 (omega arith))
+
 within : (x : ℕ) → ltb (rest - x) top ≡ true
 within x = lt-ltb (rest - x) top (omega arith)
 
@@ -303,27 +322,55 @@ module _ (n e p : ℕ) (h : History) (a b : ℕ) (nl : n ≤ 16) (el : e ≤ 102
       go true true (fails z) = rw (z, and-false (ltb 0 b && leb b e))
       go true true (passes z) = let h = eqb-true b (suc k) z in rw (z, lt-ltb 0 b (omega arith), le-leb b e (omega arith))
 
+  send-words : (clear (above (a * upper + b) (k + 1) ((top - n) * upper + rest)) && clear (below (a * upper + b) (p * upper) (top * upper + rest)))
+      ≡ (ltb a n && not (eqb a p) && ltb 0 b && leb b e && eqb b (suc k))
+  send-words = message (k + 1) rest rest (omega arith) (omega arith) (inl refl) ∙ rw (same b (k + 1), within b, add-one k) send
+
+  receipt-words : (clear (above (a * upper + b) 0 ((top - n) * upper + (rest - e))) && clear (below (a * upper + b) (p * upper) (top * upper + top)))
+      ≡ (ltb a n && not (eqb a p) && ltb 0 b && leb b e)
+  receipt-words =
+      message 0 (rest - e) top (omega arith) (omega arith) (inr (refl, refl))
+      ∙ rw (xor-zero-r b, at-most b e (omega arith), above-none b)
+      (receipt (ltb a n) (not (eqb a p)) (ltb 0 b) (leb b e))
+
   no-kind : tested 0 ≡ false
   no-kind =
       rw none
       (two-tests top 0 rest rest a b 0 p al bl (omega arith) (omega arith) (omega arith) (omega arith) (inl refl) (inl refl)
       ∙ rw (le-ltb (a + top) top (omega arith)))
 
-  pub record-test : (kind : ℕ) → tested (kindIndex kind) ≡ recordOk n e p h kind a b
-  record-test kind = go (test (eqb kind 1)) (test (eqb kind 2)) (test (eqb kind 3)) (test (eqb kind 4))
+  -- the fourth word, after the number x
+  module _ (x c : ℕ) (xl : x < top) (cl : c < upper) where
+    no-bits : bitAnd x 0 ≡ 0
+    no-bits = and-zero-r x
+
+    all-bits : bitAnd x (wrap - 1) ≡ x
+    all-bits = and-mask x 64 ∙ mod-eq-of-lt (omega arith)
+
+    fourth-none : clear ((bitAnd x 0 + (wrap - bitXor c (bitAnd x 0))) % wrap) ≡ eqb c 0
+    fourth-none = rw (no-bits, xor-zero-r c) (up-to c 0 (omega arith) cl ∙ at-zero c)
+
+    fourth-send : clear ((bitAnd x 0 + (wrap - bitXor c (bitAnd x (wrap - 1)))) % wrap) ≡ eqb c x
+    fourth-send =
+        rw (no-bits, all-bits)
+        (up-to (bitXor c x) 0 (omega arith) (xor-lt 32 c x cl (omega arith)) ∙ at-zero (bitXor c x) ∙ xor-zero c x)
+
+    fourth-receipt : clear ((bitAnd x (wrap - 1) + (wrap - bitXor c (bitAnd x 0))) % wrap) ≡ leb c x
+    fourth-receipt = rw (no-bits, all-bits, xor-zero-r c) (up-to c x xl cl)
+
+  pub record-test : (kind c : ℕ) → number h < top → c < upper
+      → (tested (kindIndex kind) && clear (beyond (number h) c (kindIndex kind))) ≡ recordOk n e p h kind a b c
+  record-test kind c xl cl = go (test (eqb kind 1)) (test (eqb kind 2)) (test (eqb kind 3)) (test (eqb kind 4))
     where
-      go : Test (eqb kind 1) → Test (eqb kind 2) → Test (eqb kind 3) → Test (eqb kind 4) → tested (kindIndex kind) ≡ recordOk n e p h kind a b
-      go (passes x) y z w = rw (eqb-true kind 1 x) checkpoint
-      go (fails x) (passes y) z w = rw (eqb-true kind 2 y) checkpoint
+      go : Test (eqb kind 1) → Test (eqb kind 2) → Test (eqb kind 3) → Test (eqb kind 4)
+          → (tested (kindIndex kind) && clear (beyond (number h) c (kindIndex kind))) ≡ recordOk n e p h kind a b c
+      go (passes x) y z w = rw (eqb-true kind 1 x) (ap₂ _&&_ checkpoint (fourth-none (number h) c xl cl))
+      go (fails x) (passes y) z w = rw (eqb-true kind 2 y) (ap₂ _&&_ checkpoint (fourth-none (number h) c xl cl))
       go (fails x) (fails y) (passes z) w =
-          rw (eqb-true kind 3 z, one)
-          (message (k + 1) rest rest (omega arith) (omega arith) (inl refl) ∙ rw (same b (k + 1), within b, add-one k) send)
+          rw (eqb-true kind 3 z, one) (ap₂ _&&_ send-words (fourth-send (number h) c xl cl))
       go (fails x) (fails y) (fails z) (passes w) =
-          rw (eqb-true kind 4 w, none)
-          (message 0 (rest - e) top (omega arith) (omega arith) (inr (refl, refl))
-          ∙ rw (xor-zero-r b, at-most b e (omega arith), above-none b)
-          (receipt (ltb a n) (not (eqb a p)) (ltb 0 b) (leb b e)))
-      go (fails x) (fails y) (fails z) (fails w) = rw (x, y, z, w, last) no-kind
+          rw (eqb-true kind 4 w, none) (ap₂ _&&_ receipt-words (fourth-receipt (number h) c xl cl))
+      go (fails x) (fails y) (fails z) (fails w) = rw (x, y, z, w, last, no-kind)
         where
           last : kindIndex kind ≡ 0
           last = at (test (ltb kind 5))
@@ -361,7 +408,7 @@ pub wraps-below : (r x f : ℕ) → r < wrap → x < wrap → f < wrap
 wraps-below r x f rl xl fl e = omega arith
 
 -- what all bits of a number do in place of 1: a number less them is one more, and only they leave a number as it is
-mask-less : (i r k : ℕ) → r < wrap → k ≤ 1024 → (r + getD masks i 0) % wrap ≡ k → r ≡ k + getD counts i 0
+mask-less : (i r k : ℕ) → r < wrap → k ≤ 1024 → (r + getD masks (suc i) 0) % wrap ≡ k → r ≡ k + getD counts i 0
 mask-less zero r k l m e = omega arith
 mask-less (suc zero) r k l m e = omega arith
 mask-less (suc (suc zero)) r k l m e = omega arith
@@ -369,7 +416,7 @@ mask-less (suc (suc (suc zero))) r k l m e = omega arith
 mask-less (suc (suc (suc (suc zero)))) r k l m e = omega arith
 mask-less (suc (suc (suc (suc (suc i))))) r k l m e = omega arith
 
-mask-times : (i r : ℕ) → r < wrap → bitAnd r (getD masks i 0) ≡ r * getD counts i 0
+mask-times : (i r : ℕ) → r < wrap → bitAnd r (getD masks (suc i) 0) ≡ r * getD counts i 0
 mask-times zero r l = and-zero-r r ∙ sym (mul-zero r)
 mask-times (suc zero) r l = and-zero-r r ∙ sym (mul-zero r)
 mask-times (suc (suc zero)) r l = and-zero-r r ∙ sym (mul-zero r)
@@ -378,34 +425,42 @@ mask-times (suc (suc (suc (suc zero)))) r l = and-zero-r r ∙ sym (mul-zero r)
 mask-times (suc (suc (suc (suc (suc i))))) r l = and-zero-r r ∙ sym (mul-zero r)
 
 module _ (kind : ℕ) {i : ℕ} {ms : List ℕ} (at : i ≡ kindIndex kind) (list : ms ≡ masks) {k r : ℕ} (kl : k ≤ 1024) (rl : r < wrap)
-    (er : (r + getD ms i 0) % wrap ≡ k) where
+    (er : (r + getD ms (i + 1) 0) % wrap ≡ k) where
   pub sends-next : r ≡ k + getD counts (kindIndex kind) 0
-  sends-next = mask-less (kindIndex kind) r k rl kl (rw (at, list) at er)
+  sends-next = mask-less (kindIndex kind) r k rl kl (rw (at, list, add-one (kindIndex kind)) at er)
 
-  pub marks-next : (m pair own : ℕ) (room floor : List ℕ) {x y : ℕ}
-      → x ≡ (bitXor pair (bitAnd r (getD ms i 0)) + getD room i 0) % wrap
+  pub marks-next : (m pair own n c : ℕ) (room floor : List ℕ) {x y z : ℕ}
+      → x ≡ (bitXor pair (bitAnd r (getD ms (i + 1) 0)) + getD room i 0) % wrap
       → (y + bitXor pair own) % wrap ≡ getD floor i 0
-      → y < wrap → pair < wrap → own < wrap → getD floor i 0 < wrap
-      → bitOr (bitOr m x) y
-      ≡ bitOr (bitOr m (above pair ((k + getD counts (kindIndex kind) 0) * getD counts (kindIndex kind) 0) (getD room (kindIndex kind) 0)))
-      (below pair own (getD floor (kindIndex kind) 0))
-  marks-next m pair own room floor {x} {y} ex ey yl pl ol fl =
+      → (z + bitXor c (bitAnd n (getD ms (i + 1) 0))) % wrap ≡ bitAnd n (getD ms i 0)
+      → y < wrap → z < wrap → pair < wrap → own < wrap → n < wrap → c < wrap → getD floor i 0 < wrap
+      → bitOr (bitOr (bitOr m x) y) z
+      ≡ bitOr (bitOr (bitOr m (above pair ((k + getD counts (kindIndex kind) 0) * getD counts (kindIndex kind) 0) (getD room (kindIndex kind) 0)))
+      (below pair own (getD floor (kindIndex kind) 0)))
+      (beyond n c (kindIndex kind))
+  marks-next m pair own n c room floor {x} {y} {z} ex ey ez yl zl pl ol nl cl fl =
       rw (
         ex,
         wraps-below y (bitXor pair own) (getD floor i 0) yl (xor-lt 64 pair own pl ol) fl ey,
+        wraps-below z (bitXor c (bitAnd n (getD ms (i + 1) 0))) (bitAnd n (getD ms i 0)) zl
+        (xor-lt 64 c (bitAnd n (getD ms (i + 1) 0)) cl (masked-low (getD ms (i + 1) 0))) (masked-low (getD ms i 0)) ez,
         at,
         list,
+        add-one (kindIndex kind),
         mask-times (kindIndex kind) r rl,
         sends-next,
       )
+    where
+      masked-low : (mask : ℕ) → bitAnd n mask < wrap
+      masked-low mask = let l = and-le-l n mask in omega arith
 
 -- what a record that is in order leaves of the last checkpoint and of the count of sends
-module _ (n e p : ℕ) (h : History) (kind a b : ℕ) (ok : recordOk n e p h kind a b ≡ true) where
+module _ (n e p : ℕ) (h : History) (kind a b c : ℕ) (ok : recordOk n e p h kind a b c ≡ true) where
   pub last-in-order : (x : ℕ) → cond (ltb (kindIndex kind) 3) (a * upper + b) (x * upper) ≡ cond (eqb kind 4 || eqb kind 3) x a * upper
   last-in-order x = go (test (eqb kind 1)) (test (eqb kind 2)) (test (eqb kind 3)) (test (eqb kind 4))
     where
-      zero-b : (leb a (n * e) && eqb b 0) ≡ true → a * upper + b ≡ a * upper
-      zero-b x = let z = eqb-true b 0 (and-right (leb a (n * e)) (eqb b 0) x) in omega arith
+      zero-b : (leb a (n * e) && eqb b 0 && eqb c 0) ≡ true → a * upper + b ≡ a * upper
+      zero-b x = let z = eqb-true b 0 (and-right (leb a (n * e)) (eqb b 0) (and-left (leb a (n * e) && eqb b 0) (eqb c 0) x)) in omega arith
 
       go : Test (eqb kind 1) → Test (eqb kind 2) → Test (eqb kind 3) → Test (eqb kind 4)
           → cond (ltb (kindIndex kind) 3) (a * upper + b) (x * upper) ≡ cond (eqb kind 4 || eqb kind 3) x a * upper
@@ -435,45 +490,63 @@ module _ (n e p : ℕ) (w : ℕ → ℕ) (at i : ℕ) where
   abbrev b : ℕ
   b = w (at + width * i + 2)
 
+  abbrev d : ℕ
+  d = w (at + width * i + 3)
+
   abbrev laid : ℕ → Bool
   laid j = recordsOk n e w p at j
 
   abbrev past : History
   past = recordsAt w at i
 
-  -- where the scan is right about the sends, or has a mark already, the test is that of document 01
-  test-next : (m k kind : ℕ) {x : Bool} → clear m ≡ laid i → (laid i ≡ true → k ≡ sends past) → kind ≡ w (at + width * i)
-      → (k ≡ sends past → x ≡ recordOk n e p past kind a b) → (clear m && x) ≡ laid (i + 1)
-  test-next m k kind {x} c s h f = rw (c, add-one i) (go (test (laid i)))
+  -- where the scan is right about what was before, or has a mark already, the test is that of document 01
+  test-next : (m kind : ℕ) {x : Bool} → clear m ≡ laid i → kind ≡ w (at + width * i)
+      → (laid i ≡ true → x ≡ recordOk n e p past kind a b d) → (clear m && x) ≡ laid (i + 1)
+  test-next m kind {x} c h f = rw (c, add-one i) (go (test (laid i)))
     where
       go : Test (laid i) → (laid i && x) ≡ laid (suc i)
-      go (passes l) = rw (l, f (s l), h)
+      go (passes l) = rw (l, f l, h)
       go (fails l) = rw l
 
   module _ (m k kind pair : ℕ) {own : ℕ} {room floor : List ℕ} (h : kind ≡ w (at + width * i)) (j : pair ≡ a * upper + b) (al : a < upper)
       (bl : b < upper) (room-of : room ≡ rooms n e) (floor-of : floor ≡ floors) (own-of : own ≡ p * upper) (nl : n ≤ 16)
-      (el : e ≤ 1024) (pl : p < n) (kl : k < e) (c : clear m ≡ laid i) (s : laid i ≡ true → k ≡ sends (recordsAt w at i)) where
-    pub clear-next : {r : ℕ} → r ≡ bitOr (bitOr m (above pair ((k + getD counts (kindIndex kind) 0) * getD counts (kindIndex kind) 0) (getD room (kindIndex kind) 0)))
-        (below pair own (getD floor (kindIndex kind) 0))
+      (el : e ≤ 1024) (pl : p < n) (kl : k < e) (c : clear m ≡ laid i)
+      {last : ℕ} (f : laid i ≡ true → (last ≡ number (recordsAt w at i) * upper) × (k ≡ sends (recordsAt w at i))) where
+    -- the number of the last checkpoint, where all records so far are in order
+    number-before : laid i ≡ true → (last / upper ≡ number past) × (number past < top)
+    number-before o =
+        let g = f o .0 in
+        let l = legal-number n e p past (records-legal n e w p at i o) in
+        let s = product n e nl el in
+        (omega arith, omega arith)
+
+    pub clear-next : {r c : ℕ} → c ≡ d → d < upper
+        → r
+        ≡ bitOr (bitOr (bitOr m (above pair ((k + getD counts (kindIndex kind) 0) * getD counts (kindIndex kind) 0) (getD room (kindIndex kind) 0)))
+        (below pair own (getD floor (kindIndex kind) 0)))
+        (beyond (last / upper) c (kindIndex kind))
         → clear r ≡ laid (i + 1)
-    clear-next q =
+    clear-next {c = word} y dl q =
         let t = (k + getD counts (kindIndex kind) 0) * getD counts (kindIndex kind) 0 in
         let u = above pair t (getD room (kindIndex kind) 0) in
         let v = below pair own (getD floor (kindIndex kind) 0) in
+        let z = beyond (last / upper) word (kindIndex kind) in
         ap clear q
-        ∙ clear-or (bitOr m u) v
-        ∙ ap (λ (z : Bool). z && clear v) (clear-or m u)
-        ∙ and-assoc (clear m) (clear u) (clear v)
-        ∙ test-next m k kind {x = clear u && clear v} c s h
-        (λ z. rw (j, room-of, floor-of, own-of, z) (record-test n e p past a b nl el pl (omega arith) al bl kind))
+        ∙ clear-or (bitOr (bitOr m u) v) z
+        ∙ ap (λ (t : Bool). t && clear z) (clear-or (bitOr m u) v ∙ ap (λ (t : Bool). t && clear v) (clear-or m u) ∙ and-assoc (clear m) (clear u) (clear v))
+        ∙ and-assoc (clear m) (clear u && clear v) (clear z)
+        ∙ test-next m kind {x = clear u && clear v && clear z} c h
+        (λ o.
+            let x = number-before o in
+            let z = f o .1 in
+            rw (j, room-of, floor-of, own-of, y, x .0, z) (record-test n e p past a b nl el pl (omega arith) al bl kind d (x .1) dl))
 
-    pub found-next : {last l : ℕ} → (laid i ≡ true → (last ≡ number (recordsAt w at i) * upper))
-        → l ≡ cond (ltb (kindIndex kind) 3) pair last → {z : ℕ} → z ≡ k + getD counts (kindIndex kind) 0 → laid (i + 1) ≡ true
+    pub found-next : {l : ℕ} → l ≡ cond (ltb (kindIndex kind) 3) pair last → {z : ℕ} → z ≡ k + getD counts (kindIndex kind) 0 → laid (i + 1) ≡ true
         → (l ≡ number (recordsAt w at (i + 1)) * upper) × (z ≡ sends (recordsAt w at (i + 1)))
-    found-next {last} {l} f g {z} y ok =
+    found-next {l} g {z} y ok =
         let both = and-eq-true-iff (laid i) (recordOkAt n e p past w (at + width * i)) .0 (rw (add-one i) at ok) in
-        let fine : recordOk n e p past kind a b ≡ true = rw h (both .1) in
+        let fine : recordOk n e p past kind a b d ≡ true = rw h (both .1) in
         let x = number (recordsAt w at i) in (
-          g ∙ rw (j, f (both .0)) (last-in-order n e p past kind a b fine x ∙ ap (λ (u : ℕ). u * upper) (number-next w at i h refl refl refl)),
-          sent-next w at i h (s (both .0)) (y ∙ sends-in-order n e p past kind a b fine k),
+          g ∙ rw (j, f (both .0) .0) (last-in-order n e p past kind a b d fine x ∙ ap (λ (u : ℕ). u * upper) (number-next w at i h refl refl refl)),
+          sent-next w at i h (f (both .0) .1) (y ∙ sends-in-order n e p past kind a b d fine k),
         )

@@ -1,10 +1,11 @@
--- A record's words a and b tested at once. A pair holds two words as the halves of one number; a test marks a half by its top bit.
+-- A record's words a and b tested at once, then its fourth word. A pair holds two words as the halves of one number; a test marks a half by
+-- its top bit.
 use mathlib.Core.Path.{_≡_}
 use mathlib.Core.Bool.{Bool, true, cond, _&&_}
 use mathlib.Core.List.{List, [], _∷_}
 use Prim.Native.Nat.{ℕ, _+_, _-_, _*_, _/_, _%_, _≤_}
 use lib.Dec.{eqb, ltb}
-use lib.Bits.{bitOr, bitXor}
+use lib.Bits.{bitAnd, bitOr, bitXor}
 use lib.ListN.{getD}
 use Rattle.rules.specs.Records.{number, sends}
 use Rattle.rules.specs.Table.{recordsAt, recordsOk}
@@ -49,12 +50,14 @@ rooms n E =
 abbrev pub floors : List ℕ
 floors = pairOf rest rest ∷ pairOf rest rest ∷ pairOf rest rest ∷ pairOf top rest ∷ pairOf top top ∷ []
 
--- by kind, how many sends a record is, and the same with all bits of a number for 1
+-- by kind, how many sends a record is
 abbrev pub counts : List ℕ
 counts = 0 ∷ 0 ∷ 0 ∷ 1 ∷ 0 ∷ []
 
+-- All bits of a number for a receipt, and none for other kinds; at the place behind a kind's own, all for a send and none for others. One
+-- list has both.
 abbrev pub masks : List ℕ
-masks = 0 ∷ 0 ∷ 0 ∷ (wrap - 1) ∷ 0 ∷ []
+masks = 0 ∷ 0 ∷ 0 ∷ 0 ∷ (wrap - 1) ∷ 0 ∷ []
 
 -- three lists are those, for a table of n processes with room for E records each
 abbrev pub ByKind : ℕ → ℕ → List ℕ → List ℕ → List ℕ → Type 0
@@ -68,14 +71,20 @@ above pair t room = (bitXor pair t + room) % wrap
 abbrev pub below : ℕ → ℕ → ℕ → ℕ
 below pair own floor = (floor + (wrap - bitXor pair own)) % wrap
 
+-- what is left of x, the number before the record, less its fourth word c: a receipt's is at most x, other kinds' at most 0, where a send's
+-- becomes 0 if it is x. It is marked where c isn't.
+abbrev pub beyond : ℕ → ℕ → ℕ → ℕ
+beyond x c i = (bitAnd x (getD masks i 0) + (wrap - bitXor c (bitAnd x (getD masks (i + 1) 0)))) % wrap
+
 -- ---- what a scan of used records has found
 
--- after one record more: its kind and its words a and b as a pair
-abbrev pub Next : Seen → List ℕ → List ℕ → ℕ → ℕ → ℕ → Seen → Type 0
-Next s room floor own kind pair r =
+-- after one record more: its kind, its words a and b as a pair, and its fourth word c
+abbrev pub Next : Seen → List ℕ → List ℕ → ℕ → ℕ → ℕ → ℕ → Seen → Type 0
+Next s room floor own kind pair c r =
     let i = kindIndex kind in
     let k = s .sends + getD counts i 0 in
-    (r .marks ≡ bitOr (bitOr (s .marks) (above pair (k * getD counts i 0) (getD room i 0))) (below pair own (getD floor i 0)))
+    (r .marks
+    ≡ bitOr (bitOr (bitOr (s .marks) (above pair (k * getD counts i 0) (getD room i 0))) (below pair own (getD floor i 0))) (beyond (s .last / upper) c i))
     × (r .last ≡ cond (ltb i 3) pair (s .last))
     × (r .sends ≡ k)
 

@@ -40,8 +40,8 @@ fn kind_index(kind: usize) -> usize
     shape::pick(kind < 5, kind, 0)
 }
 
-// One record more, with words a and b as a pair, by the lists in specs/Marks.antt. Both words are tested at once, and no kind has
-// a branch of its own.
+// One record more, with words a and b as a pair and the fourth word c, by the lists in specs/Marks.antt. Words a and b are tested at once,
+// and no kind has a branch of its own.
 fn next(
     s: Seen,
     room: &[usize],
@@ -50,17 +50,20 @@ fn next(
     own: usize,
     kind: usize,
     pair: usize,
+    c: usize,
 ) -> Seen
     requires { ⌜ (length (now room) ≡ 5) × (length (now floor) ≡ 5) × (now masks ≡ masksOf) × (s .sends ≤ 1024) ⌝ }
-    ensures { λ r. ⌜ Next s (now (room .entry)) (now (floor .entry)) own kind pair r ⌝ }
+    ensures { λ r. ⌜ Next s (now (room .entry)) (now (floor .entry)) own kind pair c r ⌝ }
 {
     let i = kind_index(kind);
-    let m = masks[i];
+    let m = masks[i + 1];
     let k = std::num::wrapping_sub_usize(s.sends, m);
     let sum = std::num::wrapping_add_usize(pair ^ (k & m), room[i]);
     let difference = std::num::wrapping_sub_usize(floor[i], pair ^ own);
+    let x = s.last / UPPER;
+    let beyond = std::num::wrapping_sub_usize(x & masks[i], c ^ (x & m));
     Seen {
-        marks: s.marks | sum | difference,
+        marks: s.marks | sum | difference | beyond,
         last: shape::pick(i < 3, pair, s.last),
         sends: k,
     }
@@ -98,6 +101,7 @@ fn used(
             own,
             xdr::get_usize(t, w),
             xdr::pair(t, w + 1),
+            xdr::get_usize(t, w + 3),
         );
         i += 1;
     }

@@ -6,7 +6,7 @@ use lib.ListN.{length}
 use borrow.Author.Needs.{needs}
 use Rattle.xdr.proofs.Puts.{put-length, each-next}
 use Rattle.xdr.specs.Words.{word, putEach}
-use Rattle.rules.specs.Table.{width, sectionAt}
+use Rattle.rules.specs.Table.{heading, width, sectionAt}
 use Rattle.rules.specs.Lines.{numbered}
 use Rattle.lines.proofs.fill.Statement.{statement}
 use Rattle.lines.proofs.fill.Tie as tie
@@ -26,7 +26,7 @@ position-of-requires c κs =
     let c5 = c .before .before .before .before .before in
     let a = c5 .args in
     let p = c .before .before .loop .p in
-    let m = mul-le-mul-right {m = p + 1} {n = a .n} (width * (a .e + 1)) (omega arith) in
+    let m = mul-le-mul-right {m = p + 1} {n = a .n} (heading + width * a .e) (omega arith) in
     (omega arith, omega arith, omega arith, c5 .pre .4 p (c .before .loop-test .taken))
 
 put-requires : tie.Need-put-requires Inv-loop μ-loop

@@ -36,7 +36,7 @@ returns c =
     let c8 = c6 .before .before in
     let c11 = c8 .before .before .before in
     let a = c11 .args in
-    record-put (a .t .now) (a .at) (a .s) (c8 .get .ensures) (a .x) (a .kind) (a .a) (a .b) (c6 .put-three .ensures)
+    record-put (a .t .now) (a .at) (a .s) (c8 .get .ensures) (a .x) (a .kind) (a .a) (a .b) (a .m) (c6 .put-three .ensures)
     (c .before .before .put-record .ensures)
 
 pub add-record-spec : {M : Type 1} → statement M

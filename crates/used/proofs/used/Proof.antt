@@ -1,11 +1,9 @@
 use Prim.Native.Nat.{ℕ, _+_, _-_, _*_, _≤_}
 use mathlib.Core.Path.{_≡_, refl, subst}
-use mathlib.Core.Bool.{true}
 use native.Mathlib.Omega.{arith}
 use borrow.Author.Needs.{needs}
 use Rattle.xdr.specs.Words.{word}
-use Rattle.rules.specs.Records.{sends}
-use Rattle.rules.specs.Table.{width, recordsAt, recordsOk}
+use Rattle.rules.specs.Table.{width}
 use Rattle.used.specs.Marks.{kindIndex, Found}
 use Rattle.used.proofs.Marks.{counts-most, clear-next, found-next}
 use Rattle.used.proofs.used.Statement.{statement}
@@ -39,9 +37,15 @@ add-pair c = search needs
 pair-requires : tie.Need-pair-requires Inv-loop μ-loop
 pair-requires c κs = search needs
 
+add-get-usize : tie.Need-add-get-usize Inv-loop μ-loop
+add-get-usize c = search needs
+
+get-usize-requires-2 : tie.Need-get-usize-requires-2 Inv-loop μ-loop
+get-usize-requires-2 c κs = search needs
+
 next-requires : tie.Need-next-requires Inv-loop μ-loop
 next-requires c κs =
-    let s = c .before .before .before .before .before .before .before .before in
+    let s = c .before .before .before .before .before .before .before .before .before in
     (rw (s .pre .4 .0) refl, rw (s .pre .4 .1) refl, s .pre .4 .2, search needs)
 
 add-i : tie.Need-add-i Inv-loop μ-loop
@@ -52,26 +56,25 @@ loop-less c = search needs
 
 loop-again : tie.Need-loop-again Inv-loop μ-loop
 loop-again c =
-    let loop = c .before .before .before .before in
+    let loop = c .before .before .before .before .before in
     let s = loop .before .before .before .before .before in
     let a = s .args in
     let i = loop .loop .i in
     let inv = loop .loop .inv .0 in
-    let kind = c .before .before .get-usize in
-    let pair = c .before .pair in
+    let kind = c .before .before .before .get-usize in
+    let pair = c .before .before .pair in
+    let fourth = c .before .get-usize2 in
     let two : a .at + width * i + 1 + 1 ≡ a .at + width * i + 2 = omega arith in
     let read = rw two at (pair .ensures .0) in
     let low = rw two at (pair .ensures .2) in
     let next = c .next .ensures in
-    let sent : recordsOk (a .n) (a .e) (word (a .t .now)) (a .p) (a .at) i ≡ true → loop .loop .s .sends ≡ sends (recordsAt (word (a .t .now)) (a .at) i) =
-    λ h. inv .1 h .1
-    in
     let most = counts-most (kindIndex (kind .result)) in (
       (
         clear-next (a .n) (a .e) (a .p) (word (a .t .now)) (a .at) i (loop .loop .s .marks) (loop .loop .s .sends) (kind .result) (pair .result) (kind .ensures .0)
-            read (pair .ensures .1) low (s .pre .4 .0) (s .pre .4 .1) refl (s .pre .0) (s .pre .1) (s .pre .2) (omega arith) (inv .0) sent (next .0),
+            read (pair .ensures .1) low (s .pre .4 .0) (s .pre .4 .1) refl (s .pre .0) (s .pre .1) (s .pre .2) (omega arith) (inv .0) (inv .1)
+            (fourth .ensures .0) (omega (arith, fourth .ensures .0, fourth .ensures .1)) (next .0),
         found-next (a .n) (a .e) (a .p) (word (a .t .now)) (a .at) i (loop .loop .s .marks) (loop .loop .s .sends) (kind .result) (pair .result) (kind .ensures .0)
-            read (pair .ensures .1) low (s .pre .4 .0) (s .pre .4 .1) refl (s .pre .0) (s .pre .1) (s .pre .2) (omega arith) (inv .0) sent (λ h. inv .1 h .0) (next .1)
+            read (pair .ensures .1) low (s .pre .4 .0) (s .pre .4 .1) refl (s .pre .0) (s .pre .1) (s .pre .2) (omega arith) (inv .0) (inv .1) (next .1)
             (next .2),
         omega (arith, next .2, most),
       ),
@@ -99,6 +102,8 @@ used-spec =
     get-usize-requires
     add-pair
     pair-requires
+    add-get-usize
+    get-usize-requires-2
     next-requires
     add-i
     loop-less
