@@ -1,24 +1,25 @@
 -- Where a scan ends: what it has found among the records that it read is what is there among all.
 use mathlib.Core.Path.{_≡_, refl, sym, ap, _∙_}
-use mathlib.Core.Bool.{true, false, not, cond, _&&_, _||_, and-false, and-eq-true-iff}
+use mathlib.Core.Logic.{_≢_, _⊎_, inl, inr}
+use mathlib.Core.Bool.{Bool, true, false, not, cond, _&&_, _||_, and-false, and-eq-true-iff, false≢true}
 use mathlib.Core.List.{[], _∷_}
 use Prim.Native.Nat.{ℕ, suc, _+_, _*_, _≤_, _<_, zero-le}
 use native.Mathlib.Numerals.{add-one}
 use native.Mathlib.Omega.{arith}
 use lib.Dec.{eqb, leb, ltb}
 use lib.ListN.{length}
-use borrow.Author.Tests.{ltb-true, lt-ltb, le-leb, lt-leb, leb-false, eqb-true, eqb-false, eq-eqb, ne-eqb}
-use Rattle.rules.specs.Records.{Event, basic, forced, sent, received, History, sends, hasReceipt}
+use borrow.Author.Tests.{ltb-true, ltb-false, lt-ltb, le-leb, lt-leb, leb-false, eqb-true, eqb-false, eq-eqb, ne-eqb}
+use Rattle.rules.specs.Records.{Event, basic, forced, sent, received, History, number, sends, carried, destination, hasReceipt}
 use Rattle.rules.specs.Table.{width, eventAt, recordsAt}
 use Rattle.rules.specs.Lines.{atLeast, numbered}
 use Rattle.tables.specs.Sections.{SendsLaid}
 use Rattle.scans.specs.Sends.{Answers}
 use Rattle.basics.proofs.Older.{Older, same, newer}
-use Rattle.basics.proofs.Booleans.{Test, passes, fails, test, or-false, or-right}
+use Rattle.basics.proofs.Booleans.{Test, passes, fails, test, or-false, or-right, false-right}
 use Rattle.records.proofs.Histories.{sends-older, carried-older, destination-older}
 use Rattle.records.proofs.NumberedLines.{reached, numbered-cons, numbered-le}
 use Rattle.tables.proofs.WellLaid.{records-length}
-use Rattle.tables.proofs.Scans.{least-event, sends-next, carried-next, destination-next, receipt-next, first-older}
+use Rattle.tables.proofs.Scans.{least-event, sends-next, carried-next, destination-next, receipt-next, first-older, sends-at-most}
 
 -- ---- the position of the first checkpoint with number N or more
 
@@ -78,71 +79,88 @@ module _ (N : ℕ) where
 
 -- ---- send k
 
-pub send-none : (k : ℕ) → Answers k [] false 0 0
-send-none k = (go (test (ltb 0 k)), refl, refl)
-  where
-    go : Test (ltb 0 k) → false ≡ (ltb 0 k && leb k 0)
-    go (passes p) = let l = ltb-true 0 k p in rw (p, lt-leb k 0 l)
-    go (fails p) = rw p
+-- there is none
+abbrev Absent : History → ℕ → Type 0
+Absent h k = (k ≡ 0) ⊎ (sends h < k)
 
--- record i, of which the words kind and b were read
+nothing : (h : History) (k : ℕ) → Absent h k → (carried h k ≡ 0) × (destination h k ≡ 0)
+nothing [] k a = (refl, refl)
+nothing (basic m ∷ h) k a = nothing h k a
+nothing (forced m ∷ h) k a = nothing h k a
+nothing (received q j c ∷ h) k a = nothing h k a
+nothing (sent q ∷ h) k a = rw (ne-eqb k (suc (sends h)) (other a)) (nothing h k (before a))
+  where
+    other : Absent (sent q ∷ h) k → k ≢ suc (sends h)
+    other (inl e) f = omega arith
+    other (inr l) f = omega arith
+
+    before : Absent (sent q ∷ h) k → Absent h k
+    before (inl e) = inl e
+    before (inr l) = inr (omega arith)
+
+pub send-none : (h : History) (k : ℕ) → Absent h k → {f : Bool} {m d : ℕ} → (f ≡ false) × (m ≡ 0) × (d ≡ 0) → Answers k h f m d
+send-none h k a r = let n = nothing h k a in (r .0 ∙ go a, r .1 ∙ sym (n .0), r .2 ∙ sym (n .1))
+  where
+    go : Absent h k → false ≡ (ltb 0 k && leb k (sends h))
+    go (inl e) = rw e
+    go (inr l) = sym (false-right (ltb 0 k) (leb k (sends h)) (lt-leb k (sends h) l))
+
+-- the first i records have at most i sends
+pub send-later : (w : ℕ → ℕ) (at i k : ℕ) → i < k → sends (recordsAt w at i) < k
+send-later w at i k l = let m = sends-at-most w at i in omega arith
+
+-- none among the first c, since k is 0 or above c
+pub send-beyond : (w : ℕ → ℕ) (at c k : ℕ) → (eqb k 0 || ltb c k) ≡ true → Absent (recordsAt w at c) k
+send-beyond w at c k t = go (test (eqb k 0)) (test (ltb c k))
+  where
+    go : Test (eqb k 0) → Test (ltb c k) → Absent (recordsAt w at c) k
+    go (passes e) f = inl (eqb-true k 0 e)
+    go (fails e) (passes f) = inr (send-later w at c k (ltb-true c k f))
+    go (fails e) (fails f) = absurd (false≢true (rw (e, f) at t))
+
+pub send-within : (c k : ℕ) → (eqb k 0 || ltb c k) ≡ false → (0 < k) × (k ≤ c)
+send-within c k f =
+    let a = eqb-false k 0 (or-false (eqb k 0) (ltb c k) f .0) in
+    let b = ltb-false c k (or-false (eqb k 0) (ltb c k) f .1) in
+    (omega arith, omega arith)
+
+-- record i, before which there are less than k sends and of which the words kind and b were read
 module _ (w : ℕ → ℕ) (at i k : ℕ) {kind b c : ℕ} (x : kind ≡ w (at + width * i)) (z : b ≡ w (at + width * i + 2)) (l : i < c)
-    (laid : SendsLaid w at c) where
+    (laid : SendsLaid w at c) (few : sends (recordsAt w at i) < k) where
   abbrev s : ℕ
   s = sends (recordsAt w at i)
 
-  -- whether it is send k
-  hit : (eqb kind 3 && eqb b k) ≡ (eqb kind 3 && eqb k (s + 1))
-  hit = go (test (eqb kind 3)) (test (eqb k (s + 1)))
-    where
-      go : Test (eqb kind 3) → Test (eqb k (s + 1)) → (eqb kind 3 && eqb b k) ≡ (eqb kind 3 && eqb k (s + 1))
-      go (passes p) (passes q) =
-          let r = laid i l (sym x ∙ eqb-true kind 3 p) .0 in
-          let e = eqb-true k (s + 1) q in
-          rw (p, q, eq-eqb b k (omega arith))
-      go (passes p) (fails q) =
-          let r = laid i l (sym x ∙ eqb-true kind 3 p) .0 in
-          let e = eqb-false k (s + 1) q in
-          rw (p, q, ne-eqb b k (omega arith))
-      go (fails p) q = rw p
-
-  -- the sends after it
-  after : (n : ℕ) → n ≡ cond (eqb kind 3) (s + 1) s → n ≡ sends (recordsAt w at (i + 1))
-  after n u = sends-next w at i x refl u
+  -- what its words say, where it is a send
+  told : eqb kind 3 ≡ true → (b ≡ suc s) × (w (at + width * i + 3) ≡ number (recordsAt w at i))
+  told p = let r = laid i l (sym x ∙ eqb-true kind 3 p) in (z ∙ r .0, r .1)
 
   pub send-found : {a m : ℕ} → a ≡ w (at + width * i + 1) → m ≡ w (at + width * i + 3) → (eqb kind 3 && eqb b k) ≡ true
       → Answers k (recordsAt w at c) true m a
   send-found y u t =
       let o = first-older w at (i + 1) c (omega arith) in
-      let is = and-eq-true-iff (eqb kind 3) (eqb k (s + 1)) .0 (sym hit ∙ t) in
-      let e = eqb-true kind 3 (is .0) in
-      let d = eqb-true k (s + 1) (is .1) in
-      let v = after (s + 1) (rw (is .0) refl) in
+      let is = and-eq-true-iff (eqb kind 3) (eqb b k) .0 t in
+      let r = told (is .0) in
+      let d : k ≡ s + 1 = (let e = eqb-true b k (is .1) in let f = r .0 in omega arith) in
+      let v : s + 1 ≡ sends (recordsAt w at (i + 1)) = sends-next w at i x refl (rw (is .0) refl) in
       let le : k ≤ sends (recordsAt w at (i + 1)) = omega arith in
       let f = sends-older o in (
         rw (lt-ltb 0 k (omega arith), le-leb k (sends (recordsAt w at c)) (omega arith)),
-        u ∙ laid i l (sym x ∙ e) .1 ∙ carried-next w at i x k refl refl refl (rw (← hit, t)) ∙ sym (carried-older o k le),
-        destination-next w at i x y k refl refl (rw (← hit, t)) ∙ sym (destination-older o k le),
+        u ∙ r .1 ∙ carried-next w at i x k refl refl refl (rw (is .0, eq-eqb k (s + 1) d) refl) ∙ sym (carried-older o k le),
+        destination-next w at i x y k refl refl (rw (is .0, eq-eqb k (s + 1) d) refl) ∙ sym (destination-older o k le),
       )
 
-  pub send-passed : (eqb kind 3 && eqb b k) ≡ false → Answers k (recordsAt w at i) false 0 0 → Answers k (recordsAt w at (i + 1)) false 0 0
-  send-passed t g = (
-    go (test (ltb 0 k)) (test (eqb kind 3)),
-    carried-next w at i x k refl refl (g .1) (rw (← hit, t)),
-    destination-next w at i x refl k refl (g .2) (rw (← hit, t)),
-  )
+  pub send-passed : (eqb kind 3 && eqb b k) ≡ false → sends (recordsAt w at (i + 1)) < k
+  send-passed t = go (test (eqb kind 3))
     where
-      go : Test (ltb 0 k) → Test (eqb kind 3) → false ≡ (ltb 0 k && leb k (sends (recordsAt w at (i + 1))))
-      go (fails p) q = rw p
-      go (passes p) (passes q) =
-          let l = leb-false k s (sym (rw p at (g .0))) in
-          let ne = eqb-false k (s + 1) (rw q at (sym hit ∙ t)) in
-          let v = after (s + 1) (rw q refl) in
-          rw (p, lt-leb k (sends (recordsAt w at (i + 1))) (omega arith))
-      go (passes p) (fails q) =
-          let l = leb-false k s (sym (rw p at (g .0))) in
-          let v = after s (rw q refl) in
-          rw (p, lt-leb k (sends (recordsAt w at (i + 1))) (omega arith))
+      go : Test (eqb kind 3) → sends (recordsAt w at (i + 1)) < k
+      go (passes p) =
+          let r = told p .0 in
+          let ne = eqb-false b k (rw p at t) in
+          let v : s + 1 ≡ sends (recordsAt w at (i + 1)) = sends-next w at i x refl (rw p refl) in
+          omega arith
+      go (fails p) =
+          let v : s ≡ sends (recordsAt w at (i + 1)) = sends-next w at i x refl (rw p refl) in
+          omega arith
 
 -- ---- a receipt of (q, k)
 

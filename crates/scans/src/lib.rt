@@ -1,5 +1,6 @@
 // Scans of a section's records, oldest first. Each ends where it has found what it looks for.
 ghost use mathlib.Core.Path.{_≡_};
+ghost use mathlib.Core.Bool.{false};
 ghost use Prim.Native.Nat.{_+_, _*_, _≤_};
 ghost use lib.ListN.{length};
 ghost use Rattle.xdr.specs.Words.{word};
@@ -16,12 +17,26 @@ pub struct Sent {
     pub to: u32,
 }
 
-// Send k among the first c records from word `at` on. In a well laid table a send's own words tell its number and what it carries.
+fn missing() -> Sent
+    ensures { λ r. ⌜ (r .found ≡ false) × (r .carried ≡ 0) × (r .to ≡ 0) ⌝ }
+{
+    Sent {
+        found: false,
+        carried: 0,
+        to: 0,
+    }
+}
+
+// Send k among the first c records from word `at` on. In a well laid table a send's own words tell its number and what it carries. The
+// first k - 1 records have less than k sends, so the search begins behind them.
 pub fn find_send(t: &[u8], at: usize, c: usize, k: usize) -> Sent
     requires { ⌜ (c ≤ 1024) × (4 * (at + width * c) ≤ length (now t)) × SendsLaid (word (now t)) at c ⌝ }
     ensures { λ r. ⌜ Answers k (recordsAt (word (now (t .entry))) at c) (r .found) (r .carried) (r .to) ⌝ }
 {
-    let mut i: usize = 0;
+    if (k == 0) | (c < k) {
+        return missing();
+    }
+    let mut i = k - 1;
     while i < c {
         let w = at + shape::WIDTH * i;
         if (xdr::get_usize(t, w) == 3) & (xdr::get_usize(t, w + 2) == k) {
@@ -33,11 +48,7 @@ pub fn find_send(t: &[u8], at: usize, c: usize, k: usize) -> Sent
         }
         i += 1;
     }
-    Sent {
-        found: false,
-        carried: 0,
-        to: 0,
-    }
+    missing()
 }
 
 // Whether the first c records from word `at` on have a receipt of (q, k).
