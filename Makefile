@@ -3,8 +3,10 @@ LIB = target/staticlib/libengine.a
 CFLAGS = -std=c99 -O2 -Wall -Wextra -Wpedantic
 CALLS = examples/worked.csv
 PREFIX = /usr/local
-VERSION = 0.1.0
 SECONDS = 60
+
+# the header's version, as three numbers with dots
+VERSION = $(shell sed -n 's/^.define CKPT_VERSION_[A-Z]* \([0-9][0-9]*\)$$/\1/p' include/ckpt.h | paste -s -d . -)
 
 # where things are installed; DESTDIR is a folder to collect them in, for a package
 ifneq ($(word 2,$(PREFIX)),)

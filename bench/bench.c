@@ -265,17 +265,18 @@ static uint32_t record(const struct tables *table, uint32_t p, uint32_t r, size_
     return ckpt_word(table->bytes, record_at(table->e, p, r) + word);
 }
 
-static void add_record(struct tables *table, uint32_t p, uint32_t kind, uint32_t a, uint32_t b) {
+static void add_record(struct tables *table, uint32_t p, uint32_t kind, uint32_t a, uint32_t b, uint32_t carried) {
     uint32_t used = ckpt_word(table->bytes, heading(table, p, HEADING_COUNT));
     size_t place = record_at(table->e, p, used);
     put_word(table->bytes, place + RECORD_KIND, kind);
     put_word(table->bytes, place + RECORD_A, a);
     put_word(table->bytes, place + RECORD_B, b);
+    put_word(table->bytes, place + RECORD_CARRIED, carried);
     put_word(table->bytes, heading(table, p, HEADING_COUNT), used + 1);
 }
 
 /* Processes 0 and 1 in 341 groups of checkpoint i, send i and a receipt: of send i + 1 at process 0, none in the last group, and of
-   send i at process 1. It is well laid, but no calls make it: those would force a checkpoint before a receipt.
+   send i at process 1, each carrying i. It is well laid, but no calls make it: those would force a checkpoint before a receipt.
 
    A failed process 0 is at checkpoint 341, without its send 341. Process 1 received that in group 341 and goes to its checkpoint
    341, without its send 341, which process 0 received in group 340, and so on. Each round takes both a group back, until they are
@@ -287,10 +288,10 @@ static void falling(struct tables *table) {
     for (uint32_t p = 0; p < 2; p++) {
         uint32_t groups = table->e / 3;
         for (uint32_t i = 1; i <= groups; i++) {
-            add_record(table, p, KIND_CHECKPOINT, i, 0);
-            add_record(table, p, KIND_SEND, 1 - p, i);
-            if (p == 1) add_record(table, p, KIND_RECEIPT, 0, i);
-            if (p == 0 && i < groups) add_record(table, p, KIND_RECEIPT, 1, i + 1);
+            add_record(table, p, KIND_CHECKPOINT, i, 0, 0);
+            add_record(table, p, KIND_SEND, 1 - p, i, i);
+            if (p == 1) add_record(table, p, KIND_RECEIPT, 0, i, i);
+            if (p == 0 && i < groups) add_record(table, p, KIND_RECEIPT, 1, i + 1, i);
         }
         put_word(table->bytes, heading(table, p, HEADING_NUMBER), groups);
         put_word(table->bytes, heading(table, p, HEADING_SENDS), groups);

@@ -27,6 +27,16 @@
 extern "C" {
 #endif
 
+/* The version, as one number to compare (0.2.0 is 200) and as text. A record has four words since 0.2.0; a table that an earlier
+   version stored is refused by its length. */
+#define CKPT_VERSION_MAJOR 0
+#define CKPT_VERSION_MINOR 2
+#define CKPT_VERSION_PATCH 0
+#define CKPT_VERSION (CKPT_VERSION_MAJOR * 10000 + CKPT_VERSION_MINOR * 100 + CKPT_VERSION_PATCH)
+#define CKPT_VERSION_STRING CKPT_TEXT(CKPT_VERSION_MAJOR) "." CKPT_TEXT(CKPT_VERSION_MINOR) "." CKPT_TEXT(CKPT_VERSION_PATCH)
+#define CKPT_TEXT(macro) CKPT_TEXT_OF(macro)
+#define CKPT_TEXT_OF(value) #value
+
 /* The numbers returned. */
 #define CKPT_OK 0u                /* accepted */
 #define CKPT_BAD_DIMENSIONS 1u    /* n or e outside its range */
@@ -47,9 +57,12 @@ extern "C" {
 #define CKPT_MAX_PROCESSES 16u
 #define CKPT_MAX_RECORDS 1024u
 
+/* The words of a record: kind, checkpoint number or other process, send number, carried number. */
+#define CKPT_RECORD_WORDS 4ul
+
 /* The lengths in bytes of a table and of each call's answer, for n and e in their ranges. The list of ckpt_resend is as long as its
    count of messages makes it; CKPT_RESEND_MOST is enough for any. */
-#define CKPT_TABLE_LENGTH(n, e) (8ul + 12ul * (n) * ((e) + 1ul))
+#define CKPT_TABLE_LENGTH(n, e) (8ul + 4ul * (n) * (3ul + CKPT_RECORD_WORDS * (e)))
 #define CKPT_CHECKPOINT_LENGTH 4ul
 #define CKPT_SEND_LENGTH 8ul
 #define CKPT_RECEIPT_LENGTH 8ul

@@ -19,11 +19,21 @@ header_calls() {
     sed -n 's/^uint32_t \(ckpt_[a-z_]*\)(.*/\1/p' include/ckpt.h
 }
 
+# header_has MACRO: what the header makes of a macro
+header_has() {
+    ${CC:-cc} -E -P -Iinclude -include ckpt.h - <<<"$1" | tail -n 1
+}
+
 # table_length N E: the header's length of a table
 table_length() {
     local sum
-    sum=$(${CC:-cc} -E -P -Iinclude -include ckpt.h - <<<"CKPT_TABLE_LENGTH($1, $2)" | tail -n 1) || return 1
+    sum=$(header_has "CKPT_TABLE_LENGTH($1, $2)") || return 1
     echo $((${sum//ul/}))
+}
+
+# header_version: the header's version, without the quotes and blanks between its parts
+header_version() {
+    header_has CKPT_VERSION_STRING | tr -d '" '
 }
 
 # host_of SOURCE PROGRAM WORDS..: builds a C99 host of the archive, with these words for the compiler

@@ -26,12 +26,23 @@ symbols() {
     ! grep -vx memset <<<"$asked"
 }
 
-# installed_in PREFIX: what `make install` puts into an empty folder is enough to build and run the hosts, and `make uninstall`
-# takes it away; a package is collected in DESTDIR and says where it will stand
+# same_version VERSION: the version that pkg-config gives is the header's
+same_version() {
+    local stated
+    stated=$(header_version)
+    if [ "$1" != "$stated" ] || [[ ! $1 =~ ^[0-9]+\.[0-9]+\.[0-9]+$ ]]; then
+        echo "pkg-config gives version '$1', the header '$stated'" >&2
+        return 1
+    fi
+}
+
+# installed_in PREFIX: what `make install` puts into an empty folder is enough to build and run the hosts and has the header's
+# version, and `make uninstall` takes it away; a package is collected in DESTDIR and says where it will stand
 installed_in() {
     local prefix=$1 flags name
+    local -x PKG_CONFIG_PATH="$prefix/lib/pkgconfig"
     make -s install PREFIX="$prefix" || return 1
-    flags=$(PKG_CONFIG_PATH="$prefix/lib/pkgconfig" pkg-config --cflags --libs ckpt) || return 1
+    flags=$(pkg-config --cflags --libs ckpt) && same_version "$(pkg-config --modversion ckpt)" || return 1
     for name in worked host; do
         # shellcheck disable=SC2086
         ${CC:-cc} -std=c99 -o "$prefix/$name" "examples/$name.c" $flags && "$prefix/$name" >"$made/installed.out" || return 1

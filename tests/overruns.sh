@@ -87,6 +87,10 @@ engine "a wrong number"
 wrapped -DWRONG_NUMBER && finds "differ in the number returned" "$origin" "proved: +returned 5" "reference: returned 6"
 told
 
+engine "a send that carries nothing"
+wrapped -DNOTHING_CARRIED && finds "differ in the table" "$origin" "Send" "proved: +returned 0"
+told
+
 engine "a byte behind the list"
 wrapped -DBEHIND_LIST && finds "differ in the area" "$origin" "Resend" "proved: +returned 0"
 told

@@ -9,11 +9,16 @@
 
 #include "table.h"
 
-#if CKPT_TABLE_LENGTH(16, 1024) != 196808 || CKPT_RESEND_MOST(16, 1024) != 196612 || CKPT_AREA_TOO_SHORT != 13
+#if CKPT_TABLE_LENGTH(16, 1024) != 262344 || CKPT_RESEND_MOST(16, 1024) != 196612 || CKPT_AREA_TOO_SHORT != 13
 #error "the header's macros can't be used by the preprocessor"
 #endif
 
-enum { N = 3, E = 2, NO_BYTES = 0 };
+#if CKPT_VERSION < 200
+#error "a record has four words since 0.2.0"
+#endif
+
+/* OLD_LENGTH is that of a table of version 0.1.0. */
+enum { N = 3, E = 2, NO_BYTES = 0, OLD_LENGTH = 8 + 12 * N * (E + 1) };
 
 static uint8_t table[CKPT_TABLE_LENGTH(N, E)];
 static uint8_t area[CKPT_RESEND_MOST(N, E) + 1];
@@ -53,6 +58,14 @@ static void all(uint32_t number, uint8_t *lent, size_t length) {
     SAME(ckpt_resend(lent, length, POSITIONS, area, sizeof area), number);
 }
 
+/* The table is not well laid with this word in the place of one. */
+static void not_well_laid_with(size_t i, uint32_t word) {
+    uint32_t before = ckpt_word(table, i);
+    put_word(table, i, word);
+    all(CKPT_NOT_WELL_LAID, table, sizeof table);
+    put_word(table, i, before);
+}
+
 /* The rows' numbers, as the documents have them. */
 static void numbers(void) {
     SAME(CKPT_OK, 0);
@@ -82,11 +95,12 @@ static void table_rows(void) {
     SAME(fresh(N, E), CKPT_OK);
     all(CKPT_BAD_TABLE_LENGTH, table, 7);
     all(CKPT_BAD_TABLE_LENGTH, table, sizeof table - 1);
+    all(CKPT_BAD_TABLE_LENGTH, table, OLD_LENGTH);
+    SAME(ckpt_fresh(table, OLD_LENGTH, N, E), CKPT_BAD_TABLE_LENGTH);
     put_word(table, 0, CKPT_MAX_PROCESSES + 1);
     all(CKPT_BAD_DIMENSIONS, table, sizeof table);
     put_word(table, 0, N);
-    put_word(table, section_at(E, N) - 1, 1);
-    all(CKPT_NOT_WELL_LAID, table, sizeof table);
+    not_well_laid_with(section_at(E, N) - 1, 1);
 }
 
 static void later_rows(void) {
@@ -118,6 +132,22 @@ static void later_rows(void) {
     SAME(failed(1), CKPT_OK);
     SAME(ckpt_word(area, N), 3);
     SAME(ckpt_word(area, N + 1), 2);
+}
+
+/* On the table that later_rows left: what was carried stands in the fourth word of send and receipt, and is part of what is
+   well laid. */
+static void carried(void) {
+    size_t sent = record_at(E, 0, 1) + RECORD_CARRIED, received = record_at(E, 1, 1) + RECORD_CARRIED;
+    size_t saved = record_at(E, 0, 0) + RECORD_CARRIED;
+    SAME(ckpt_word(table, saved), 0);
+    SAME(ckpt_word(table, sent), 1);
+    SAME(ckpt_word(table, received), 1);
+    not_well_laid_with(saved, 1);
+    not_well_laid_with(sent, 0);
+    not_well_laid_with(received, 2);
+    put_word(table, received, 0);
+    SAME(line(0), CKPT_OK);
+    put_word(table, received, 1);
 }
 
 /* On the table that later_rows left: process 0 has sent (0, 1), process 1 was forced and has got it. */
@@ -175,9 +205,12 @@ static void no_bytes(void) {
 static void lengths(void) {
     uint32_t n = 8, e = 256;
     uint8_t high[8] = {0, 0, 0, 0, 0xff, 0x80, 0x01, 0xfe};
-    SAME(CKPT_TABLE_LENGTH(1, 1), 32);
-    SAME(CKPT_TABLE_LENGTH(n, e), 24680);
-    SAME(CKPT_TABLE_LENGTH(n + 8, 4 * e), 196808);
+    SAME(CKPT_RECORD_WORDS, 4);
+    SAME(CKPT_TABLE_LENGTH(1, 1), 36);
+    SAME(CKPT_TABLE_LENGTH(2, 4), 160);
+    SAME(CKPT_TABLE_LENGTH(n, e), 32872);
+    SAME(CKPT_TABLE_LENGTH(n + 8, 4 * e), 262344);
+    SAME(CKPT_TABLE_LENGTH(n + 1, e + 1), 8 + 4 * 9 * (3 + 4 * 257));
     SAME(CKPT_TABLE_LENGTH(N, E), 4 * section_at(E, N));
     SAME(CKPT_CHECKPOINT_LENGTH, 4);
     SAME(CKPT_SEND_LENGTH, 8);
@@ -191,11 +224,23 @@ static void lengths(void) {
     SAME(ckpt_word(high, 1), 0xff8001fe);
 }
 
+/* The number and the text are of the same three. */
+static void version(void) {
+    char text[32];
+    snprintf(text, sizeof text, "%d.%d.%d", CKPT_VERSION / 10000, CKPT_VERSION / 100 % 100, CKPT_VERSION % 100);
+    SAME(strcmp(text, CKPT_VERSION_STRING) == 0, 1);
+    SAME(CKPT_VERSION / 10000, CKPT_VERSION_MAJOR);
+    SAME(CKPT_VERSION / 100 % 100, CKPT_VERSION_MINOR);
+    SAME(CKPT_VERSION % 100, CKPT_VERSION_PATCH);
+}
+
 int main(void) {
     numbers();
+    version();
     lengths();
     table_rows();
     later_rows();
+    carried();
     resend_rows();
     number_at_limit();
     no_bytes();

@@ -1,11 +1,11 @@
 /* An engine that goes wrong, to see that the fuzzer finds it (tests/overruns.sh): ckpt_line, ckpt_send and ckpt_resend of the
    archive, wrapped by the linker. -DTOUCH is what they do first, one of the functions below, with the lent block that -DTOUCHED
-   names; without these they do what the archive's do. -DWRONG_NUMBER makes ckpt_send return 5 where 6 is due, -DBEHIND_LIST makes
-   ckpt_resend write the byte after the last entry, and -DEARLY_COUNT the area's first word though the area is too short. Compiled
-   without a sanitizer, as the archive is. */
+   names; without these they do what the archive's do. -DWRONG_NUMBER makes ckpt_send return 5 where 6 is due, -DNOTHING_CARRIED
+   makes it leave 0 as the fourth word of its record, -DBEHIND_LIST makes ckpt_resend write the byte after the last entry, and
+   -DEARLY_COUNT the area's first word though the area is too short. Compiled without a sanitizer, as the archive is. */
 #include <string.h>
 
-#include <ckpt.h>
+#include "table.h"
 
 uint32_t __real_ckpt_line(const uint8_t *table, size_t table_len, uint8_t *area, size_t area_len, uint32_t number);
 uint32_t __real_ckpt_send(uint8_t *table, size_t table_len, uint8_t *area, size_t area_len, uint32_t p, uint32_t q);
@@ -74,6 +74,12 @@ uint32_t __wrap_ckpt_send(uint8_t *table, size_t table_len, uint8_t *area, size_
     uint32_t returned = __real_ckpt_send(table, table_len, area, area_len, p, q);
 #ifdef WRONG_NUMBER
     if (returned == 6) return 5;
+#endif
+#ifdef NOTHING_CARRIED
+    if (returned == CKPT_OK) {
+        size_t e = ckpt_word(table, 1), used = ckpt_word(table, section_at(e, p) + HEADING_COUNT);
+        put_word(table, record_at(e, p, used - 1) + RECORD_CARRIED, 0);
+    }
 #endif
     return returned;
 }

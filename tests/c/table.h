@@ -1,15 +1,15 @@
-/* What stands where in a table, in words: document 01, "The table". For the hosts beside it and the bench, which write tables that
-   no call makes. In what C99 and C++17 have in common. */
+/* What stands where in a table, in words: document 01, "The table", with document 02's fourth word of a record. For the hosts beside
+   it and the bench, which write tables that no call makes. In what C99 and C++17 have in common. */
 #ifndef TABLE_H
 #define TABLE_H
 
 #include <ckpt.h>
 
 /* Words of a table before its sections, of a section before its records, and of a record. */
-enum { HEAD_WORDS = 2, HEADING_WORDS = 3, RECORD_WORDS = 3 };
+enum { HEAD_WORDS = 2, HEADING_WORDS = 3, RECORD_WORDS = CKPT_RECORD_WORDS };
 /* Which they are. */
 enum { HEADING_COUNT, HEADING_NUMBER, HEADING_SENDS };
-enum { RECORD_KIND, RECORD_A, RECORD_B };
+enum { RECORD_KIND, RECORD_A, RECORD_B, RECORD_CARRIED };
 
 enum { KIND_CHECKPOINT = 1, KIND_FORCED, KIND_SEND, KIND_RECEIPT };
 

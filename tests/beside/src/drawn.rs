@@ -3,9 +3,9 @@
 use crate::{Engine, Origin, Pair};
 use cases::calls::{numbers, CALLS};
 use cases::cut::{self, in_transit, listed};
-use cases::table::WIDTH;
+use cases::table::{old_table_length, WIDTH};
 use cases::{
-    area_length, damage, messages, records, remember, step_or_line, table_length, well_laid, Call, Rng,
+    area_length, damage, messages, records, remember, step, step_or_line, table_length, well_laid, Call, Rng,
 };
 use std::collections::{BTreeMap, BTreeSet};
 use std::fmt;
@@ -149,6 +149,20 @@ impl Case<'_> {
     }
 }
 
+/// A pair on a table that a run of steps from fresh made.
+pub fn made(rng: &mut Rng, n: u32, e: u32, origin: Origin) -> Pair {
+    let mut pair = Pair::fresh(n, e, origin);
+    let mut known = Vec::new();
+    for _ in 0..rng.below(4 * n * e + 2) {
+        let call = step(rng, n, e, &known);
+        let length = area_length(rng, call.area_length(n));
+        if pair.call(call, &vec![0xEE; length]).0 == 0 {
+            remember(rng, &mut known, call, pair.table());
+        }
+    }
+    pair
+}
+
 fn damaged(rng: &mut Rng, n: u32, e: u32) -> Vec<u8> {
     let mut table = well_laid(rng, n, e);
     damage(rng, &mut table, n, e);
@@ -159,12 +173,13 @@ fn damaged(rng: &mut Rng, n: u32, e: u32) -> Vec<u8> {
 fn wrong_length(rng: &mut Rng, n: u32, e: u32) -> Vec<u8> {
     let mut table = well_laid(rng, n, e);
     let length = table.len();
-    let other = match rng.below(6) {
+    let other = match rng.below(7) {
         0 => rng.below(9) as usize,
         1 => length - 1,
         2 => length + 1,
         3 => length + 4 * WIDTH,
         4 => rng.below(length as u32) as usize,
+        5 => old_table_length(n, e),
         _ => length + rng.below(64) as usize,
     };
     table.resize(other, 0);

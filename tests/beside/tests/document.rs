@@ -1,9 +1,10 @@
 //! Document 01's own cases and its table of checks. Each number is asserted as the document has it, and every call is
-//! made beside the reference engine.
+//! made beside the reference engine. Tables have document 02's fourth word; tests/carried.rs has its clauses.
 use beside::{pair_of_words, Origin, Pair};
-use cases::chosen::{count_into_next_section, full, one_free_at};
+use cases::chosen::{count_into_next_section, full, one_free_at, ONE_OF_EACH};
 use cases::table::{
-    changed, checkpoint, forced, record, section, words_of_records, A, B, COUNT, KIND, NUMBER, SENDS, WIDTH,
+    changed, checkpoint, forced, record, section, words_of_records, A, B, CARRIED, COUNT, KIND, NUMBER,
+    SENDS, WIDTH,
 };
 use cases::Call::{self, Checkpoint, Failed, Fresh, Line, Receipt, Resend, Send};
 use cases::{from_records, from_words, records, table_length, to_words};
@@ -40,9 +41,9 @@ fn the_worked_controller() {
     #[rustfmt::skip]
     let table = from_words(&[
         3, 6,
-        2, 1, 1,  1, 1, 0,  3, 1, 1,  0, 0, 0,  0, 0, 0,  0, 0, 0,  0, 0, 0,
-        4, 1, 2,  3, 2, 1,  2, 1, 0,  4, 0, 1,  3, 2, 2,  0, 0, 0,  0, 0, 0,
-        3, 1, 0,  2, 1, 0,  4, 1, 2,  4, 1, 1,  0, 0, 0,  0, 0, 0,  0, 0, 0,
+        2, 1, 1,  1, 1, 0, 0,  3, 1, 1, 1,  0, 0, 0, 0,  0, 0, 0, 0,  0, 0, 0, 0,  0, 0, 0, 0,
+        4, 1, 2,  3, 2, 1, 0,  2, 1, 0, 0,  4, 0, 1, 1,  3, 2, 2, 1,  0, 0, 0, 0,  0, 0, 0, 0,
+        3, 1, 0,  2, 1, 0, 0,  4, 1, 2, 1,  4, 1, 1, 0,  0, 0, 0, 0,  0, 0, 0, 0,  0, 0, 0, 0,
     ]);
     assert_eq!(pair.table(), table);
     let counts: Vec<usize> = records(pair.table()).iter().map(Vec::len).collect();
@@ -130,9 +131,10 @@ fn ten_on_a_table_that_no_run_makes() {
     assert_eq!(numbered(1).exact(Checkpoint { p: 0 }), (0, vec![2]));
 }
 
+/// Document 01's dimensions and slip 3's, with the lengths that slip 3 gives.
 #[test]
-fn the_three_lengths() {
-    for (n, e, length) in [(1, 1, 32), (8, 256, 24_680), (16, 1024, 196_808)] {
+fn the_lengths() {
+    for (n, e, length) in [(1, 1, 36), (2, 4, 160), (8, 256, 32_872), (16, 1024, 262_344)] {
         let mut zeros = vec![0; length / 4];
         zeros[..2].copy_from_slice(&[n, e]);
         let mut pair = Pair::new(&vec![0xEE; length], ORIGIN);
@@ -146,22 +148,12 @@ fn the_three_lengths() {
             // The other calls too, on what would be a fresh table.
             let mut table = from_words(&zeros);
             table.resize(other, 0);
-            for call in [Line { number: 0 }, Failed { mask: 0 }] {
+            for call in ONE_OF_EACH {
                 assert_eq!(Pair::new(&table, ORIGIN).call(call, &vec![0; call.area_length(n)]).0, 2);
             }
         }
     }
 }
-
-/// One call of each kind but fresh.
-const CALLS: &[Call] = &[
-    Checkpoint { p: 0 },
-    Send { p: 0, q: 1 },
-    Receipt { p: 0, q: 1, k: 1 },
-    Line { number: 0 },
-    Failed { mask: 0 },
-    Resend,
-];
 
 #[test]
 fn tables_under_eight_bytes() {
@@ -169,7 +161,7 @@ fn tables_under_eight_bytes() {
         // The bytes that are there begin a good table, or one whose dimensions are out of range.
         for head in [[3, 6], [17, 6], [0, 0]] {
             let table = &from_words(&head)[..length];
-            for &call in CALLS {
+            for call in ONE_OF_EACH {
                 for area in [0, 4, 8, 12, 20] {
                     assert_eq!(Pair::new(table, ORIGIN).call(call, &vec![0; area]).0, 2, "{call:?}");
                 }
@@ -185,7 +177,7 @@ fn tables_under_eight_bytes() {
     // Eight bytes have dimensions: those out of range come first, the length is wrong for all others.
     for (head, returned) in [([3, 6], 2), ([1, 1], 2), ([17, 6], 1), ([0, 1], 1), ([1, 0], 1), ([1, 1025], 1)]
     {
-        for &call in CALLS {
+        for call in ONE_OF_EACH {
             assert_eq!(
                 Pair::new(&from_words(&head), ORIGIN).call(call, &[]).0,
                 returned,
@@ -232,7 +224,7 @@ fn both_of_two_overtaking_messages_are_received() {
     );
     assert_eq!(pair.exact(Receipt { p: 1, q: 0, k: 2 }).0, 8);
     assert_eq!(pair.exact(Receipt { p: 1, q: 0, k: 1 }).0, 8);
-    assert_eq!(records(pair.table())[1], [[2, 1, 0], [4, 0, 2], [4, 0, 1]]);
+    assert_eq!(records(pair.table())[1], [[2, 1, 0, 0], [4, 0, 2, 1], [4, 0, 1, 0]]);
 }
 
 #[test]
@@ -250,7 +242,7 @@ fn an_equal_number_forces_nothing() {
             (Receipt { p: 1, q: 0, k: 2 }, &[2, 1]),
         ],
     );
-    assert_eq!(records(pair.table())[1], [[1, 1, 0], [4, 0, 1], [2, 2, 0], [4, 0, 2]]);
+    assert_eq!(records(pair.table())[1], [[1, 1, 0, 0], [4, 0, 1, 1], [2, 2, 0, 0], [4, 0, 2, 2]]);
 }
 
 /// Tables that meet rows 2, 1, 2 and 3, each all rows of the table that come after as well; then the number.
@@ -368,7 +360,7 @@ fn each_clause_of_well_laid() {
         &[(place(0, 1, KIND), 5)],
         &[(place(0, 1, KIND), 1 << 24 | 1)],
         &[(place(2, 1, KIND), MAX)],
-        &[(place(0, 1, A), 19), (heading(0, NUMBER), 19)], // a checkpoint number above n × E
+        &[(place(0, 1, A), 19), (heading(0, NUMBER), 19), (place(0, 2, CARRIED), 19)], // a number above n × E
         &[(place(2, 1, A), MAX), (heading(2, NUMBER), MAX)],
         &[(place(0, 1, B), 1)], // a checkpoint's b isn't 0
         &[(place(2, 1, B), 1)],
@@ -387,10 +379,14 @@ fn each_clause_of_well_laid() {
         &[(heading(2, NUMBER), 2)],
         &[(heading(1, SENDS), 1)], // the send count isn't the number of sends
         &[(heading(2, SENDS), 1)],
-        &[(worked.len() - 1, 1)], // the last word of the last unused record
+        &[(place(0, 3, KIND), 1)], // each word of an unused record
+        &[(place(0, 3, A), 1)],
+        &[(place(0, 3, B), 1)],
+        &[(place(0, 3, CARRIED), 1)],
+        &[(worked.len() - 1, 1)],
     ];
     for &changes in bad {
-        for &call in CALLS {
+        for call in ONE_OF_EACH {
             assert_eq!(with(changes).exact(call).0, 3, "{changes:?}, {call:?}");
         }
     }
@@ -399,13 +395,13 @@ fn each_clause_of_well_laid() {
     assert_eq!(pair_of_words(&over, ORIGIN).exact(Failed { mask: 1 }).0, 3);
     // What no run makes and well laid allows.
     let good: &[&[(usize, u32)]] = &[
-        &[(place(0, 1, A), 18), (heading(0, NUMBER), 18)], // a number of n × E
-        &[(place(0, 1, A), 0), (heading(0, NUMBER), 0)],   // a number of 0
-        &[(place(0, 1, KIND), 2)],                         // a forced checkpoint anywhere
-        &[(place(1, 3, B), 6)],                            // a receipt without its send
-        &[(place(1, 3, A), 2)],                            // a receipt from a process that sent nothing
+        &[(place(0, 1, A), 18), (heading(0, NUMBER), 18), (place(0, 2, CARRIED), 18)], // a number of n × E
+        &[(place(0, 1, A), 0), (heading(0, NUMBER), 0), (place(0, 2, CARRIED), 0)],    // a number of 0
+        &[(place(0, 1, KIND), 2)], // a forced checkpoint anywhere
+        &[(place(1, 3, B), 6)],    // a receipt without its send
+        &[(place(1, 3, A), 2)],    // a receipt from a process that sent nothing
         &[(place(2, 3, KIND), 4), (place(2, 3, A), 1), (place(2, 3, B), 2)], // the same receipt twice
-        &[(place(0, 2, A), 2)],                            // a send whose receipt another process has
+        &[(place(0, 2, A), 2)],    // a send whose receipt another process has
     ];
     for &changes in good {
         assert_eq!(with(changes).exact(Line { number: 0 }), (0, vec![0, 0, 0]), "{changes:?}");

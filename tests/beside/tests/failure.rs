@@ -3,9 +3,9 @@
 use beside::cuts::{failed, History};
 use beside::{on_proved, seed, Origin, Pair};
 use cases::cut::tuples;
-use cases::table::{checkpoint, forced, receipt, send, Record, A, B, KIND, RECEIPT, SEND};
+use cases::table::{checkpoint, forced, number_of, receipt, send, Record, A, B, KIND, RECEIPT, SEND};
 use cases::Call::{self, Failed, Fresh};
-use cases::{from_records, records, remember, step, table_length, well_laid, Rng};
+use cases::{carry, from_records, records, remember, step, table_length, well_laid, Rng};
 use std::fmt;
 
 /// What the lines of a test were like.
@@ -113,14 +113,15 @@ fn linked(rng: &mut Rng, n: u32, e: u32) -> Vec<u8> {
                 let until = if rng.one_in(e) { e } else { (t as u32).saturating_sub(delay) };
                 let sent = some_send(rng, &sections[q as usize][..until as usize], p as u32);
                 let k = if rng.one_in(n * e) { Some(1 + rng.below(e)) } else { sent };
-                sections[p][t] = k.map_or(checkpoint(0), |k| receipt(q, k));
+                sections[p][t] = k.map_or(checkpoint(0), |k| receipt(q, k, 0));
             }
         }
     }
+    sections.iter_mut().for_each(|section| carry(rng, section));
     from_records(e, &sections)
 }
 
-/// Records of process p, one in so many a checkpoint. The receipts name no send yet.
+/// Records of process p, one in so many a checkpoint. The receipts name no send yet, and nothing is carried.
 fn unlinked(rng: &mut Rng, n: u32, e: u32, p: u32, checkpoints: u32) -> Vec<Record> {
     let mut sends = 0;
     let record = |t: u32| {
@@ -129,10 +130,10 @@ fn unlinked(rng: &mut Rng, n: u32, e: u32, p: u32, checkpoints: u32) -> Vec<Reco
         }
         let other = (p + 1 + rng.below(n - 1)) % n;
         if rng.one_in(2) {
-            return receipt(other, 0);
+            return receipt(other, 0, 0);
         }
         sends += 1;
-        send(other, sends)
+        send(other, sends, 0)
     };
     (0..e).map(record).collect()
 }
@@ -208,14 +209,15 @@ fn nobody_goes_back_when_nobody_failed() {
     assert!(receipts > 4_000, "{receipts}");
 }
 
-/// The sections of process p that have one record more than this one. Numbers of checkpoints fall.
+/// The sections of process p that have one record more than this one. Numbers of checkpoints fall, and receipts carry
+/// as much as they may.
 fn longer(n: u32, e: u32, p: u32, section: &[Record]) -> Vec<Vec<Record>> {
-    let number = n * e - section.len() as u32;
+    let (before, number) = (number_of(section), n * e - section.len() as u32);
     let sends = section.iter().filter(|r| r[KIND] == SEND).count() as u32;
     let mut next = vec![checkpoint(number), forced(number)];
     for other in (0..n).filter(|&q| q != p) {
-        next.push(send(other, sends + 1));
-        next.extend((1..=e).map(|k| receipt(other, k)));
+        next.push(send(other, sends + 1, before));
+        next.extend((1..=e).map(|k| receipt(other, k, before)));
     }
     next.into_iter().map(|record| [section, &[record]].concat()).collect()
 }
@@ -232,7 +234,7 @@ fn all_sections(n: u32, e: u32, p: u32) -> Vec<Vec<Record>> {
     all
 }
 
-/// Every well laid table of these dimensions, but for the numbers of checkpoints.
+/// Every well laid table of these dimensions, but for the numbers of checkpoints and what receipts carry.
 #[test]
 fn every_table_of_small_dimensions() {
     for (n, e) in [(1, 4), (2, 1), (2, 2), (2, 3), (3, 1), (3, 2)] {
@@ -282,13 +284,14 @@ fn random_masks_on_the_largest_tables() {
 
 /// n = 16. Processes 0 to m - 1 hang on each other in a ring: each receives from the next one and sends to the one
 /// before it. Step i of a process is a receipt, a checkpoint and send i, or the checkpoint first. The receipt is of
-/// send i - 1, none in step 1, but at process m - 1 it is of send i.
+/// send i - 1, none in step 1, but at process m - 1 it is of send i. It carries i - 1 in any case, as no more is well laid
+/// before the checkpoint.
 fn ring(e: u32, m: u32, checkpoint_first: bool) -> Vec<u8> {
     let step = |p: u32, i: u32| {
         let k = if p == m - 1 { i } else { i - 1 };
-        let receipt = (k > 0).then(|| receipt((p + 1) % m, k));
+        let receipt = (k > 0).then(|| receipt((p + 1) % m, k, i - 1));
         let checkpoint = Some(checkpoint(i));
-        let send = Some(send((p + m - 1) % m, i));
+        let send = Some(send((p + m - 1) % m, i, i));
         let step = if checkpoint_first { [checkpoint, receipt, send] } else { [receipt, checkpoint, send] };
         step.into_iter().flatten()
     };
@@ -341,7 +344,7 @@ fn a_fall_of_more_rounds_than_records() {
 fn eleven_for_a_bit_at_n_or_above() {
     for (n, e) in (1..=16u32).flat_map(|n| [(n, 2), (n, 1024)]) {
         let count = n.min(2);
-        let section = |p| [checkpoint(1), send((p + 1) % n, 1)][..count as usize].to_vec();
+        let section = |p| [checkpoint(1), send((p + 1) % n, 1, 1)][..count as usize].to_vec();
         let table = from_records(e, &(0..n).map(section).collect::<Vec<_>>());
         let mut pair = Pair::new(&table, Origin { test: "number 11", seed: 0, case: n.into() });
         let all = (1u32 << n) - 1;

@@ -1,11 +1,12 @@
 //! Document 02's slip 1: the messages to send again. Each list is asked for beside the reference engine, where table and
 //! positions must stay as they were, and compared with `in_transit`, which goes by the document's words.
+use beside::drawn::made;
 use beside::{seed, Origin, Pair};
 use cases::chosen::{crossed, WORKED};
 use cases::cut::{self, counts, has_orphan, in_transit, listed, tuples, Message};
 use cases::table::{receipt, send, Record, A, B, KIND, RECEIPT, SEND};
 use cases::Call::{self, Failed, Line};
-use cases::{area_length, from_records, from_words, records, remember, step, well_laid, Rng};
+use cases::{from_records, from_words, records, well_laid, Rng};
 use std::fmt;
 
 const ORIGIN: Origin = Origin { test: "resend", seed: 0, case: 0 };
@@ -173,19 +174,6 @@ fn the_rows_of_positions_and_area() {
     }
 }
 
-fn made(rng: &mut Rng, n: u32, e: u32, origin: Origin) -> Pair {
-    let mut pair = Pair::fresh(n, e, origin);
-    let mut known = Vec::new();
-    for _ in 0..rng.below(4 * n * e + 2) {
-        let call = step(rng, n, e, &known);
-        let length = area_length(rng, call.area_length(n));
-        if pair.call(call, &vec![LENT; length]).0 == 0 {
-            remember(rng, &mut known, call, pair.table());
-        }
-    }
-    pair
-}
-
 #[test]
 fn random_cuts() {
     const TABLES: u64 = 4_000;
@@ -218,12 +206,12 @@ fn the_largest_tables() {
     const E: u32 = 1024;
     let origin = Origin { test: "largest tables", seed: seed(), case: 0 };
     let mut rng = origin.rng();
-    let sends = |p: u32, count: u32| (1..=count).map(move |k| send((p + k % (N - 1) + 1) % N, k));
+    let sends = |p: u32, count: u32| (1..=count).map(move |k| send((p + k % (N - 1) + 1) % N, k, 0));
     let full: Vec<Vec<Record>> = (0..N).map(|p| sends(p, E).collect()).collect();
     let mut half: Vec<Vec<Record>> = (0..N).map(|p| sends(p, E / 2).collect()).collect();
     for p in 0..N {
         let sent = (0..N).flat_map(|q| sends(q, E / 2).map(move |r| (q, r))).filter(|(_, r)| r[A] == p);
-        let mut got: Vec<Record> = sent.map(|(q, r)| receipt(q, r[B])).collect();
+        let mut got: Vec<Record> = sent.map(|(q, r)| receipt(q, r[B], 0)).collect();
         got.retain(|_| !rng.one_in(3));
         got.sort_by_cached_key(|_| rng.draw());
         half[p as usize].extend(got);

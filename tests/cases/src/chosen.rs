@@ -1,8 +1,19 @@
-//! The worked controller, and tables that no run makes, chosen for the rows that calls on them meet.
+//! One call of each kind, the worked controller, and tables that no run makes, chosen for the rows that calls on them
+//! meet.
 use crate::table::{
     checkpoint, forced, from_records, receipt, section, send, words_of_records, Record, COUNT, WIDTH,
 };
 use crate::Call;
+
+/// One call of each kind but fresh.
+pub const ONE_OF_EACH: [Call; 6] = [
+    Call::Checkpoint { p: 0 },
+    Call::Send { p: 0, q: 1 },
+    Call::Receipt { p: 0, q: 1, k: 1 },
+    Call::Line { number: 0 },
+    Call::Failed { mask: 0 },
+    Call::Resend,
+];
 
 /// Document 01's worked controller, n = 3, E = 6: the steps after fresh.
 pub const WORKED: [Call; 7] = [
@@ -15,11 +26,13 @@ pub const WORKED: [Call; 7] = [
     Call::Receipt { p: 2, q: 1, k: 1 },
 ];
 
-/// n = 2, E = 2: the first count is 3, and the next section's heading would pass for the third record.
+/// n = 2, E = 4: the first count is 5, and the next section's heading, with the kind behind it, would pass for the fifth
+/// record, a receipt.
 pub fn count_into_next_section() -> Vec<u32> {
-    let mut words = words_of_records(2, &[vec![checkpoint(1), forced(1)], vec![checkpoint(1)]]);
-    words[section(2, 0) + COUNT] = 3;
-    assert_eq!(words[section(2, 1)..][..WIDTH], checkpoint(1));
+    let second = vec![checkpoint(1), send(0, 1, 1), send(0, 2, 1), send(0, 3, 1)];
+    let mut words = words_of_records(4, &[vec![forced(1); 4], second]);
+    words[section(4, 0) + COUNT] = 5;
+    assert_eq!(words[section(4, 1)..][..WIDTH], receipt(1, 3, 1));
     words
 }
 
@@ -27,8 +40,8 @@ pub fn count_into_next_section() -> Vec<u32> {
 /// send to another process and of one that isn't there.
 pub fn full() -> [Vec<Record>; 3] {
     [
-        vec![checkpoint(12), receipt(1, 1), receipt(1, 2), receipt(1, 4)],
-        vec![send(0, 1), send(2, 2), checkpoint(2), send(0, 3)],
+        vec![checkpoint(12), receipt(1, 1, 0), receipt(1, 2, 1), receipt(1, 4, 1)],
+        vec![send(0, 1, 0), send(2, 2, 0), checkpoint(2), send(0, 3, 2)],
         vec![],
     ]
 }
@@ -46,8 +59,8 @@ pub fn one_free_at(number: u32) -> Vec<u8> {
 /// nor (0, 2), which went to process 2. So at the counts (0, 1) and (0, 2) are in transit.
 pub fn crossed() -> [Vec<Record>; 3] {
     [
-        vec![send(1, 1), send(2, 2), send(1, 3), receipt(1, 1)],
-        vec![receipt(0, 3), receipt(0, 2), send(2, 1), receipt(0, 3)],
-        vec![receipt(0, 1), receipt(1, 1)],
+        vec![send(1, 1, 0), send(2, 2, 0), send(1, 3, 0), receipt(1, 1, 0)],
+        vec![receipt(0, 3, 0), receipt(0, 2, 0), send(2, 1, 0), receipt(0, 3, 0)],
+        vec![receipt(0, 1, 0), receipt(1, 1, 0)],
     ]
 }

@@ -6,7 +6,8 @@ pub mod table;
 
 pub use calls::{on_reference, Call};
 use table::{
-    checkpoint, forced, receipt, record, section, send, A, B, HEAD, HEADING, KIND, SEND, SENDS, WIDTH,
+    checkpoint, forced, receipt, record, section, send, Record, A, B, CARRIED, HEAD, HEADING, KIND, RECEIPT,
+    SEND, SENDS, WIDTH,
 };
 pub use table::{from_records, from_words, records, table_length, to_words};
 
@@ -149,8 +150,25 @@ pub fn area_length(rng: &mut Rng, exact: usize) -> usize {
     }
 }
 
+/// Gives a section's sends and receipts the fourth words of a well laid table: a send the number before it, a receipt
+/// anything up to that, often the number itself or 0, whatever its send carried.
+pub fn carry(rng: &mut Rng, section: &mut [Record]) {
+    let mut number = 0;
+    for record in section {
+        match record[KIND] {
+            SEND => record[CARRIED] = number,
+            RECEIPT => {
+                let any = rng.below(number + 1);
+                record[CARRIED] = rng.pick(&[0, number, any]);
+            }
+            _ => number = record[A],
+        }
+    }
+}
+
 /// A well laid table, but mostly one that no run makes: checkpoint numbers fall, repeat, are 0 or n × E, forced
-/// checkpoints stand anywhere, receipts repeat, lack their send or are of a send to another process.
+/// checkpoints stand anywhere, receipts repeat, lack their send, are of a send to another process or carried another
+/// number than their send.
 pub fn well_laid(rng: &mut Rng, n: u32, e: u32) -> Vec<u8> {
     let mut sections = Vec::new();
     for p in 0..n {
@@ -165,26 +183,27 @@ pub fn well_laid(rng: &mut Rng, n: u32, e: u32) -> Vec<u8> {
             let other = if n == 1 { 0 } else { (p + 1 + rng.below(n - 1)) % n };
             records.push(match rng.below(if n == 1 { 3 } else { 10 }) {
                 kind @ 0..=2 => {
-                    number = match rng.below(6) {
+                    number = match rng.below(8) {
                         0 => 0,
                         1 => n * e,
                         2 => number,
                         3 => number.saturating_sub(1),
-                        4 => rng.below(n * e + 1),
+                        4 | 5 => rng.below(n * e + 1),
                         _ => (number + 1).min(n * e),
                     };
                     [checkpoint, forced][kind as usize % 2](number)
                 }
                 3..=6 => {
                     sends += 1;
-                    send(other, sends)
+                    send(other, sends, 0)
                 }
                 _ => {
                     let top = rng.pick(&[e, e.min(4), e.min(4)]);
-                    receipt(other, 1 + rng.below(top))
+                    receipt(other, 1 + rng.below(top), 0)
                 }
             });
         }
+        carry(rng, &mut records);
         sections.push(records);
     }
     from_records(e, &sections)
@@ -205,8 +224,14 @@ pub fn damage(rng: &mut Rng, table: &mut [u8], n: u32, e: u32) {
             let byte = at + rng.below(4) as usize;
             table[byte] ^= 1 << rng.below(8);
         } else {
-            let value = if rng.one_in(2) { rng.below(6) } else { rng.extreme(n, e) };
-            table[at..at + 4].copy_from_slice(&value.to_be_bytes());
+            let word = &mut table[at..at + 4];
+            let old = to_words(word)[0];
+            let value = match rng.below(3) {
+                0 => rng.below(6),
+                1 => rng.extreme(n, e),
+                _ => rng.pick(&[old.wrapping_sub(1), old.wrapping_add(1)]),
+            };
+            word.copy_from_slice(&value.to_be_bytes());
         }
     }
 }

@@ -1,4 +1,5 @@
-//! What stands where in a table: document 01, "The table". Only here is it counted.
+//! What stands where in a table: document 01, "The table", and document 02's slip 3, the fourth word of a record. Only
+//! here is it counted.
 
 /// Words of a table before its sections: n and E.
 pub const HEAD: usize = 2;
@@ -8,10 +9,11 @@ pub const COUNT: usize = 0;
 pub const NUMBER: usize = 1;
 pub const SENDS: usize = 2;
 /// Words of a record, and which they are.
-pub const WIDTH: usize = 3;
+pub const WIDTH: usize = 4;
 pub const KIND: usize = 0;
 pub const A: usize = 1;
 pub const B: usize = 2;
+pub const CARRIED: usize = 3;
 
 pub type Record = [u32; WIDTH];
 
@@ -22,19 +24,19 @@ pub const SEND: u32 = 3;
 pub const RECEIPT: u32 = 4;
 
 pub const fn checkpoint(number: u32) -> Record {
-    [CHECKPOINT, number, 0]
+    [CHECKPOINT, number, 0, 0]
 }
 
 pub const fn forced(number: u32) -> Record {
-    [FORCED, number, 0]
+    [FORCED, number, 0, 0]
 }
 
-pub const fn send(to: u32, k: u32) -> Record {
-    [SEND, to, k]
+pub const fn send(to: u32, k: u32, carried: u32) -> Record {
+    [SEND, to, k, carried]
 }
 
-pub const fn receipt(from: u32, k: u32) -> Record {
-    [RECEIPT, from, k]
+pub const fn receipt(from: u32, k: u32, carried: u32) -> Record {
+    [RECEIPT, from, k, carried]
 }
 
 pub fn is_checkpoint(record: &Record) -> bool {
@@ -44,6 +46,11 @@ pub fn is_checkpoint(record: &Record) -> bool {
 /// Whether the record is send k and goes to p.
 pub fn is_send(record: &Record, p: u32, k: u32) -> bool {
     (record[KIND], record[A], record[B]) == (SEND, p, k)
+}
+
+/// The number of the last checkpoint among these records, 0 if there is none.
+pub fn number_of(records: &[Record]) -> u32 {
+    records.iter().rev().find(|r| is_checkpoint(r)).map_or(0, |r| r[A])
 }
 
 /// The word at which the section of process p begins, or the table ends where p is n.
@@ -58,6 +65,11 @@ pub const fn record(e: u32, p: u32, i: u32) -> usize {
 
 pub const fn table_length(n: u32, e: u32) -> usize {
     4 * section(e, n)
+}
+
+/// The length by document 01, which slip 3 made longer: a record had three words.
+pub const fn old_table_length(n: u32, e: u32) -> usize {
+    8 + 12 * n as usize * (e as usize + 1)
 }
 
 pub fn from_words(words: &[u32]) -> Vec<u8> {
@@ -85,9 +97,8 @@ pub fn records(table: &[u8]) -> Vec<Vec<Record>> {
 pub fn words_of_records(e: u32, sections: &[Vec<Record>]) -> Vec<u32> {
     let mut words = vec![sections.len() as u32, e];
     for (p, records) in sections.iter().enumerate() {
-        let number = records.iter().rev().find(|r| is_checkpoint(r)).map_or(0, |r| r[A]);
         let sends = records.iter().filter(|r| r[KIND] == SEND).count();
-        words.extend([records.len() as u32, number, sends as u32]);
+        words.extend([records.len() as u32, number_of(records), sends as u32]);
         words.extend(records.iter().flatten());
         words.resize(section(e, p as u32 + 1), 0);
     }

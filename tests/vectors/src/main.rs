@@ -4,8 +4,8 @@ use cases::calls::numbers;
 use cases::chosen::{count_into_next_section, crossed, full, one_free_at, WORKED};
 use cases::cut::{self, has_orphan, in_transit, listed, tuples};
 use cases::table::{
-    changed, checkpoint, forced, receipt, record, section, send, words_of_records, Record, A, B, COUNT, KIND,
-    NUMBER, RECEIPT, SENDS,
+    changed, checkpoint, forced, old_table_length, receipt, record, section, send, words_of_records, Record,
+    A, B, CARRIED, COUNT, KIND, NUMBER, RECEIPT, SENDS,
 };
 use cases::{
     area_length, from_records, from_words, messages, on_reference, records, remember, step, table_length,
@@ -21,8 +21,8 @@ const COLUMNS: usize = 158;
 const MAX: u32 = u32::MAX;
 
 /// n and E of the random runs, and of the tables that no run makes.
-const RUNS: [(u32, u32); 12] =
-    [(1, 1), (1, 4), (2, 1), (2, 3), (2, 4), (2, 5), (2, 6), (3, 2), (3, 3), (3, 4), (3, 5), (3, 6)];
+const RUNS: [(u32, u32); 10] =
+    [(1, 1), (1, 4), (2, 1), (2, 3), (2, 4), (2, 6), (3, 2), (3, 3), (3, 4), (3, 6)];
 #[rustfmt::skip]
 const UNMADE: [(u32, u32); 14] = [
     (1, 1), (1, 3), (2, 1), (2, 2), (2, 3), (2, 4), (2, 5), (2, 6), (3, 2), (3, 3), (3, 4), (3, 4), (3, 5), (3, 6),
@@ -304,9 +304,9 @@ fn random_well_laid(rng: &mut Rng, n: u32, e: u32, steps: u32) -> Script {
     script
 }
 
-/// n = 2, E = 2: a checkpoint and a send at process 0, a receipt at process 1.
+/// n = 2, E = 2: a checkpoint and a send at process 0, a receipt at process 1, which carried less than its send.
 fn good() -> Vec<u32> {
-    words_of_records(2, &[vec![checkpoint(1), send(1, 1)], vec![receipt(0, 1)]])
+    words_of_records(2, &[vec![checkpoint(1), send(1, 1, 1)], vec![receipt(0, 1, 0)]])
 }
 
 /// The same with some words changed so that it isn't well laid, for each clause of document 01's sentence.
@@ -322,10 +322,11 @@ fn badly_laid() -> Vec<Script> {
         &[(place(1, 2, KIND), 1)],
         &[(place(1, 2, A), 1)],
         &[(place(1, 2, B), 1)],
+        &[(place(1, 2, CARRIED), 1)],
         &[(place(0, 1, KIND), 5)], // a kind that isn't in the table
         &[(place(1, 1, KIND), 1 << 24)],
-        &[(place(0, 1, A), 5), (heading(0, NUMBER), 5)], // a number above n × E
-        &[(place(0, 1, B), 1)],                          // a checkpoint's b isn't 0
+        &[(place(0, 1, A), 5), (heading(0, NUMBER), 5), (place(0, 2, CARRIED), 5)], // a number above n × E
+        &[(place(0, 1, B), 1)], // a checkpoint's b isn't 0
         &[(place(0, 1, KIND), 2), (place(0, 1, B), 1)],
         &[(place(0, 2, A), 0)], // a send to its own process
         &[(place(0, 2, A), 2)], // a send to a process that isn't there
@@ -358,6 +359,34 @@ fn badly_laid() -> Vec<Script> {
     bad.collect()
 }
 
+/// Document 02, slip 3. n = 2, E = 4: a send and a receipt between two checkpoints of process 0, and the fourth word of
+/// a record changed. Where it is well laid, what the receipt carried plays no part.
+fn fourth_words() -> Vec<Script> {
+    let own = vec![forced(2), send(1, 1, 2), receipt(1, 1, 2), checkpoint(3)];
+    let words = words_of_records(4, &[own, vec![send(0, 1, 0)]]);
+    // Places are counted from 1, as in the document.
+    let with = |t: u32, word: u32| Script::words(&changed(&words, &[(record(4, 0, t - 1) + CARRIED, word)]));
+    let calls = [
+        Call::Receipt { p: 0, q: 1, k: 1 },
+        Call::Receipt { p: 1, q: 0, k: 1 },
+        Call::Line { number: 3 },
+        Call::Failed { mask: 2 },
+    ];
+    let good = [0, 1, 2].map(|word| {
+        let script = with(3, word).with(&calls);
+        assert!(script.steps.iter().map(|step| step.returned).eq([8, 0, 0, 0]), "{word}");
+        script
+    });
+    // Below or above what is due, or the number of the checkpoint that follows.
+    let bad = [(1, 1), (1, 1 << 31), (2, 1), (2, 3), (2, MAX), (3, 3), (3, 1 << 31 | 2), (4, 3), (4, MAX)];
+    let bad = bad.iter().zip(calls.iter().cycle()).map(|(&(t, word), &call)| {
+        let script = with(t, word).with(&[call]);
+        assert_eq!(script.steps[0].returned, 3, "{word} at place {t}");
+        script
+    });
+    good.into_iter().chain(bad).collect()
+}
+
 /// One call of each kind, each with an area of this length.
 fn each(mut script: Script, area: usize) -> Script {
     let calls = [
@@ -377,7 +406,7 @@ fn each(mut script: Script, area: usize) -> Script {
 /// Rows 2, 1 and 2 of the table, each with later rows met as well.
 fn wrong_lengths_and_dimensions() -> Vec<Script> {
     let length = table_length(2, 2);
-    let lengths = [0, 3, 7, 8, length - 1, length + 1].map(|length| {
+    let lengths = [0, 3, 7, 8, old_table_length(2, 2), length - 1, length + 1].map(|length| {
         let mut table = from_words(&good());
         table.resize(length, 9);
         let mut script = each(Script::on(&table), 8);
@@ -430,7 +459,7 @@ fn small_cases() -> Vec<Script> {
 
 /// n = 2, E = 6. The numbers of process 0 fall, so its sends carry 5, 2 and 0; process 1 receives them in this order.
 fn falling_numbers(order: [u32; 3]) -> Script {
-    let falling = vec![checkpoint(5), send(1, 1), checkpoint(2), send(1, 2), forced(0), send(1, 3)];
+    let falling = vec![checkpoint(5), send(1, 1, 5), checkpoint(2), send(1, 2, 2), forced(0), send(1, 3, 0)];
     Script::records(6, &[falling, vec![]]).with(&order.map(|k| Call::Receipt { p: 1, q: 0, k }))
 }
 
@@ -456,10 +485,11 @@ fn forced_chain() -> Script {
 /// n = 2, E = 7: each checkpoint lies between a receipt and the send that the other side's next receipt needs, so a
 /// failed process takes the other one back, and that one the first, down to the start.
 fn fall() -> Script {
-    let round =
-        |other: u32, received: u32, sent: u32| [receipt(other, received), checkpoint(0), send(other, sent)];
-    let first = [send(1, 1)].into_iter().chain((1..=2).flat_map(|k| round(1, k, k + 1)));
-    let second = (1..=2).flat_map(|k| round(0, k, k)).chain([receipt(0, 3)]);
+    let round = |other: u32, received: u32, sent: u32| {
+        [receipt(other, received, 0), checkpoint(0), send(other, sent, 0)]
+    };
+    let first = [send(1, 1, 0)].into_iter().chain((1..=2).flat_map(|k| round(1, k, k + 1)));
+    let second = (1..=2).flat_map(|k| round(0, k, k)).chain([receipt(0, 3, 0)]);
     let mut script = Script::records(7, &[first.collect(), second.collect()]);
     script.lines(&[0, 1]);
     script
@@ -549,6 +579,8 @@ fn rules() -> String {
     let lengths = "Tables under 8 bytes, dimensions out of range, other lengths than those of n and E.";
     file.group("lengths", lengths, wrong_lengths_and_dimensions());
     file.group("laid", "Tables that are not well laid, by each clause.", badly_laid());
+    let carried = "Fourth words of records: a receipt's that are well laid, then others of every kind.";
+    file.group("carried", carried, fourth_words());
     file.group("rows", "The rows of the steps and of the areas, in order.", rows_of_steps());
     let forced = "Receipts that force and receipts that don't: carried numbers that fall, received in three orders, and a chain of forced ones.";
     let orders = [[1, 2, 3], [3, 2, 1], [2, 1, 3]].map(falling_numbers);
