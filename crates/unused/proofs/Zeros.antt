@@ -1,7 +1,7 @@
 -- Unused words, and the first part of a section's test.
-use mathlib.Core.Path.{_≡_, refl, sym, ap, _∙_}
-use mathlib.Core.Bool.{Bool, true, false, _&&_, and-true, and-false, and-assoc}
-use Prim.Native.Nat.{ℕ, zero, suc, _+_, _-_, _*_, _/_, _≤_, _<_}
+use mathlib.Core.Path.{_≡_, sym, ap₂, _∙_}
+use mathlib.Core.Bool.{Bool, true, false, _&&_, and-true, and-assoc}
+use Prim.Native.Nat.{ℕ, zero, suc, _+_, _-_, _*_, _≤_, _<_}
 use native.Mathlib.Nat.{add-zero}
 use lib.Dec.{eqb}
 use lib.Bits.{bitOr}
@@ -25,48 +25,24 @@ module _ (w : ℕ → ℕ) where
       let b : i + (m + k) ≡ i + m + k = omega arith in
       rw (a, b, zeros-parts i m k) (and-assoc (zerosAt w i m) (zerosAt w (i + m) k) (eqb (w (i + m + k)) 0))
 
-  -- a pair more
-  pub zeros-next : (i j m x y : ℕ) → eqb x 0 ≡ (zerosAt w j 2 && zerosAt w i (2 * m)) → eqb y 0 ≡ (eqb (w (i + 2 * m)) 0 && eqb (w (i + 2 * m + 1)) 0)
-      → eqb (bitOr x y) 0 ≡ (zerosAt w j 2 && zerosAt w i (2 * (m + 1)))
-  zeros-next i j m x y e f =
-      let a : 2 * (m + 1) ≡ 2 * m + 2 = omega arith in
-      or-zero x y
-      ∙ rw (e, zeros-two (i + 2 * m) f, a, zeros-parts i (2 * m) 2) (and-assoc (zerosAt w j 2) (zerosAt w i (2 * m)) (zerosAt w (i + 2 * m) 2))
+  -- no words
+  pub zeros-none : (at j : ℕ) → true ≡ zerosAt w at (2 * (j - j))
+  zeros-none at j = let a : 2 * (j - j) ≡ 0 = omega arith in rw a
 
-  -- the last pair and as many pairs as there are from the first on are all words
-  pub zeros-all : (i j m : ℕ) → i + 2 ≤ j → m ≡ (j - i) / 2 → (zerosAt w (j - 2) 2 && zerosAt w i (2 * m)) ≡ zerosAt w i (j - i)
-  zeros-all i j m l e =
-      let r = j - i - 2 * m in
-      let a : j - i ≡ 2 * m + r = omega arith in
-      let b : 2 ≡ 2 - r + r = omega arith in
-      let c : j - 2 + (2 - r) ≡ i + 2 * m = omega arith in
-      let d : 2 * m ≡ 2 * m - (2 - r) + (2 - r) = omega arith in
-      let f : i + (2 * m - (2 - r)) ≡ j - 2 = omega arith in
-      let tail : zerosAt w (j - 2) 2 ≡ (zerosAt w (j - 2) (2 - r) && zerosAt w (i + 2 * m) r) =
-      ap (zerosAt w (j - 2)) b ∙ zeros-parts (j - 2) (2 - r) r ∙ ap (λ (k : ℕ). zerosAt w (j - 2) (2 - r) && zerosAt w k r) c
-      in
-      let head : zerosAt w i (2 * m) ≡ (zerosAt w i (2 * m - (2 - r)) && zerosAt w (j - 2) (2 - r)) =
-      ap (zerosAt w i) d ∙ zeros-parts i (2 * m - (2 - r)) (2 - r) ∙ ap (λ (k : ℕ). zerosAt w i (2 * m - (2 - r)) && zerosAt w k (2 - r)) f
-      in
-      ap (λ (z : Bool). z && zerosAt w i (2 * m)) tail
-      ∙ ap (λ (z : Bool). (zerosAt w (j - 2) (2 - r) && zerosAt w (i + 2 * m) r) && z) head
-      ∙ overlap (zerosAt w i (2 * m - (2 - r))) (zerosAt w (j - 2) (2 - r)) (zerosAt w (i + 2 * m) r)
-      ∙ ap (λ (z : Bool). z && zerosAt w (i + 2 * m) r) (sym head)
-      ∙ sym (zeros-parts i (2 * m) r)
-      ∙ ap (zerosAt w i) (sym a)
-    where
-      overlap : (p q r : Bool) → ((q && r) && (p && q)) ≡ ((p && q) && r)
-      overlap true true r = and-true r
-      overlap true false r = refl
-      overlap false true r = and-false r
-      overlap false false r = refl
+  -- after the pairs of words from pair j to pair i, one pair more; the first pair of all starts at word `at`
+  pub zeros-next : (at j i x y : ℕ) → j ≤ i → eqb x 0 ≡ zerosAt w (at + 2 * j) (2 * (i - j)) → eqb y 0 ≡ (eqb (w (at + 2 * i)) 0 && eqb (w (at + 2 * i + 1)) 0)
+      → eqb (bitOr x y) 0 ≡ zerosAt w (at + 2 * j) (2 * (i + 1 - j))
+  zeros-next at j i x y l e f =
+      let a : 2 * (i + 1 - j) ≡ 2 * (i - j) + 2 = omega arith in
+      let b : at + 2 * j + 2 * (i - j) ≡ at + 2 * i = omega arith in
+      or-zero x y ∙ rw (e, zeros-two (at + 2 * i) f, a, zeros-parts (at + 2 * j) (2 * (i - j)) 2, b)
 
-  -- the unused records, from the c-th of e on
-  pub unused-zero : (at c e : ℕ) {z : Bool} → z ≡ zerosAt w (at + width * c) (at + width * e - (at + width * c)) → z ≡ zerosAt w (at + width * c) (width * (e - c))
-  unused-zero at c e h = let n : at + width * e - (at + width * c) ≡ width * (e - c) = omega arith in h ∙ ap (zerosAt w (at + width * c)) n
-
-  pub unused-none : (at c e : ℕ) → c ≡ e → true ≡ zerosAt w at (width * (e - c))
-  unused-none at c e h = let n : e - c ≡ 0 = omega arith in rw n
+  -- records as pairs
+  pub zeros-records : (at c e : ℕ) {i : ℕ} {z : Bool} → i ≡ 2 * e → z ≡ zerosAt w (at + 2 * (2 * c)) (2 * (i - 2 * c)) → z ≡ zerosAt w (at + width * c) (width * (e - c))
+  zeros-records at c e {i} h f =
+      let a : at + 2 * (2 * c) ≡ at + width * c = omega arith in
+      let b : 2 * (i - 2 * c) ≡ width * (e - c) = omega arith in
+      f ∙ ap₂ (zerosAt w) a b
 
 -- ---- a section
 

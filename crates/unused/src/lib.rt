@@ -1,37 +1,24 @@
 // The unused records of a table, which are zeros (document 01, "The table").
 ghost use mathlib.Core.Path.{_≡_};
-ghost use Prim.Native.Nat.{_+_, _-_, _*_, _/_, _≤_};
+ghost use Prim.Native.Nat.{_+_, _-_, _*_, _≤_};
 ghost use lib.Dec.{eqb};
 ghost use lib.ListN.{length};
 ghost use Rattle.xdr.specs.Words.{word};
 ghost use Rattle.rules.specs.Table.{heading, width, start as startOf, zerosAt};
 ghost use Rattle.tables.specs.Sections.{every, rearOk};
 
-// 0 exactly when the words from word `from` up to word `end`, which are m pairs or one word more, are. The last pair is looked at first, since
-// a loop over pairs leaves out the last of an odd number of words.
-fn words(t: &[u8], from: usize, m: usize, end: usize) -> usize
-    requires { ⌜ (from + 2 ≤ end) × (4 * end ≤ length (now t)) × (m ≡ (end - from) / 2) ⌝ }
-    ensures { λ r. ⌜ eqb r 0 ≡ zerosAt (word (now (t .entry))) from (end - from) ⌝ }
-{
-    let mut x = xdr::raw_pair(t, end - 2);
-    let mut i: usize = 0;
-    while i < m {
-        x = x | xdr::raw_pair(t, from + 2 * i);
-        i += 1;
-    }
-    x
-}
-
-// 0 exactly when the records from the c-th to the e-th, which start at word `at`, are unused.
+// 0 exactly when the records from the c-th to the e-th, which start at word `at`, are unused. A record is two pairs of words.
 fn unused(t: &[u8], at: usize, c: usize, e: usize) -> usize
     requires { ⌜ (c ≤ e) × (e ≤ 1024) × (4 * (at + width * e) ≤ length (now t)) ⌝ }
     ensures { λ r. ⌜ eqb r 0 ≡ zerosAt (word (now (t .entry))) (at + width * c) (width * (e - c)) ⌝ }
 {
-    let m = shape::WIDTH * (e - c) / 2;
-    if m == 0 {
-        return 0;
+    let mut x: usize = 0;
+    let mut i = 2 * c;
+    while i < 2 * e {
+        x = x | xdr::raw_pair(t, at + 2 * i);
+        i += 1;
     }
-    words(t, at + shape::WIDTH * c, m, at + shape::WIDTH * e)
+    x
 }
 
 // 0 exactly when the section that starts at word `at` has at most e used records, and zeros behind them.

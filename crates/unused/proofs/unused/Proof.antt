@@ -1,53 +1,72 @@
-use Prim.Native.Nat.{_+_, _*_}
+use Prim.Native.Nat.{_+_, _-_, _*_, _≤_}
+use mathlib.Core.Path.{_≡_}
 use native.Mathlib.Omega.{arith}
+use lib.Dec.{eqb}
 use borrow.Author.Needs.{needs}
 use Rattle.xdr.specs.Words.{word}
-use Rattle.unused.proofs.Zeros.{unused-none, unused-zero}
+use Rattle.rules.specs.Table.{zerosAt}
+use Rattle.unused.proofs.Zeros.{zeros-none, zeros-next, zeros-records}
 use Rattle.unused.proofs.unused.Statement.{statement}
 use Rattle.unused.proofs.unused.Tie as tie
-use Rattle.rules.specs.Table.{width}
 
-sub-m : tie.Need-sub-m
-sub-m c = search needs
+abbrev Inv-loop : tie.InvT-loop
+Inv-loop t at c e x₀ i₀ x i = (eqb x 0 ≡ zerosAt (word t) (at + 2 * (2 * c)) (2 * (i - 2 * c))) × (2 * c ≤ i) × (i ≤ 2 * e)
 
-mul-m : tie.Need-mul-m
-mul-m c = search needs
+abbrev μ-loop : tie.MeasureT-loop
+μ-loop t at c e x₀ i₀ x i = 2 * e - i
 
-returns : tie.Need-returns
+mul-i : tie.Need-mul-i Inv-loop μ-loop
+mul-i c = search needs
+
+loop-holds : tie.Need-loop-holds Inv-loop μ-loop
+loop-holds c = let a = c .before .args in (zeros-none (word (a .t .now)) (a .at + 2 * (2 * a .c)) (2 * a .c), omega arith, omega arith)
+
+mul-loop : tie.Need-mul-loop Inv-loop μ-loop
+mul-loop c = search needs
+
+mul-raw-pair : tie.Need-mul-raw-pair Inv-loop μ-loop
+mul-raw-pair c = omega arith
+
+add-raw-pair : tie.Need-add-raw-pair Inv-loop μ-loop
+add-raw-pair c = omega arith
+
+raw-pair-requires : tie.Need-raw-pair-requires Inv-loop μ-loop
+raw-pair-requires c κs = omega arith
+
+add-i : tie.Need-add-i Inv-loop μ-loop
+add-i c = omega arith
+
+loop-less : tie.Need-loop-less Inv-loop μ-loop
+loop-less c = search needs
+
+loop-again : tie.Need-loop-again Inv-loop μ-loop
+loop-again c =
+    let loop = c .before .before .loop in
+    let a = c .before .before .before .before .args in (
+      zeros-next (word (a .t .now)) (a .at) (2 * a .c) (loop .i) (loop .x) (c .raw-pair .result) (loop .inv .1) (loop .inv .0) (c .raw-pair .ensures),
+      omega arith,
+      omega arith,
+    )
+
+returns : tie.Need-returns Inv-loop μ-loop
 returns c =
-    let a = c .before .before .args in
-    unused-none (word (a .t .now)) (a .at + width * a .c) (a .c) (a .e) (omega arith)
-
-mul-words : tie.Need-mul-words
-mul-words c = search needs
-
-add-words : tie.Need-add-words
-add-words c = search needs
-
-mul-words-2 : tie.Need-mul-words-2
-mul-words-2 c = search needs
-
-add-words-2 : tie.Need-add-words-2
-add-words-2 c = search needs
-
-words-requires : tie.Need-words-requires
-words-requires c κs = search needs
-
-returns-2 : tie.Need-returns-2
-returns-2 c =
+    let loop = c .before .loop in
     let a = c .before .before .before .args in
-    unused-zero (word (a .t .now)) (a .at) (a .c) (a .e) (c .words .ensures)
+    zeros-records (word (a .t .now)) (a .at) (a .c) (a .e) (omega arith) (loop .inv .0)
 
 pub unused-spec : {M : Type 1} → statement M
 unused-spec =
     tie.close
     (tie.spec
-    sub-m
-    mul-m
-    returns
-    mul-words
-    add-words
-    mul-words-2
-    add-words-2
-    words-requires
-    returns-2)
+    Inv-loop
+    μ-loop
+    mul-i
+    loop-holds
+    mul-loop
+    mul-raw-pair
+    add-raw-pair
+    raw-pair-requires
+    add-i
+    loop-less
+    loop-again
+    returns)
