@@ -1,9 +1,11 @@
 -- Laws of tests that are put together, and of values that a test picks.
-use mathlib.Core.Path.{_≡_, refl, sym, ap}
+use mathlib.Core.Path.{_≡_, refl, sym, ap, _∙_}
 use mathlib.Core.Logic.{_⊎_, inl, inr}
 use mathlib.Core.Bool.{Bool, true, false, cond, _&&_, _||_, and-false, and-eq-true-iff}
-use Prim.Native.Nat.{ℕ}
+use Prim.Native.Nat.{ℕ, zero, suc, _<_}
+use native.Mathlib.Nat.{not-suc-le-zero}
 use native.Mathlib.Omega.{arith}
+use native.Mathlib.Decide.{decLt}
 
 -- what a test came to, with the equation
 pub data Test (b : Bool) : Type 0 where
@@ -63,3 +65,12 @@ either false y u v = refl
 pub both : {A : Type 0} (x y : Bool) (u v : A) → cond x (cond y u v) v ≡ cond (x && y) u v
 both true y u v = refl
 both false y u v = refl
+
+-- a test of all numbers below m that asks one after the other holds of each
+pub each-below : (all f : ℕ → Bool) → ((m : ℕ) → all (suc m) ≡ (all m && f m)) → (m : ℕ) → all m ≡ true → (i : ℕ) → i < m → f i ≡ true
+each-below all f step zero ok i lt = absurd (not-suc-le-zero lt)
+each-below all f step (suc m) ok i lt = go (decLt i m) (each-below all f step m (and-left (all m) (f m) (sym (step m) ∙ ok)) i)
+  where
+    go : Dec (i < m) → (i < m → f i ≡ true) → f i ≡ true
+    go (yes l) r = r l
+    go (no l) r = ap f (let e : i ≡ m = omega arith in e) ∙ and-right (all m) (f m) (sym (step m) ∙ ok)

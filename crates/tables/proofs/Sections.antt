@@ -7,26 +7,18 @@ use native.Mathlib.Nat.{mul-le-mul-right}
 use native.Mathlib.Numerals.{add-one}
 use lib.Dec.{eqb, leb}
 use native.Mathlib.Omega.{arith}
-use native.Mathlib.Decide.{decLt}
 use borrow.Author.Tests.{leb-true, eq-eqb, ne-eqb}
 use Rattle.rules.specs.Records.{number, sends}
 use Rattle.rules.specs.Table.{heading, width, start, zerosAt, sectionsOk, sectionOk, recordsOk, recordsAt}
 use Rattle.tables.specs.Sections.{every, rearOk, frontOk}
-use Rattle.basics.proofs.Booleans.{Test, passes, fails, test, interchange}
+use Rattle.basics.proofs.Booleans.{Test, passes, fails, test, interchange, each-below}
 
 pub start-most : (e p n : ℕ) → p < n → start e (p + 1) ≤ start e n
 start-most e p n l = let m = mul-le-mul-right {m = p + 1} {n = n} (heading + width * e) (omega arith) in omega arith
 
 module _ (f : ℕ → Bool) where
   pub every-at : (m p : ℕ) → p < m → every f m ≡ true → f p ≡ true
-  every-at (suc m) p lt e = go (decLt p m) (λ l. every-at m p l (both .0))
-    where
-      both : (every f m ≡ true) × (f m ≡ true)
-      both = and-eq-true-iff (every f m) (f m) .0 e
-
-      go : Dec (p < m) → (p < m → f p ≡ true) → f p ≡ true
-      go (yes l) g = g l
-      go (no l) g = ap f (let i : p ≡ m = omega arith in i) ∙ both .1
+  every-at m p lt e = each-below (every f) f (λ k. refl) m e p lt
 
   pub every-next : (p : ℕ) {x : ℕ} → every f p ≡ true → eqb x 0 ≡ f p → x ≡ 0 → every f (p + 1) ≡ true
   every-next p {x} e g z = rw (add-one p, e) (sym g ∙ eq-eqb x 0 z)

@@ -1,7 +1,7 @@
 -- A well laid table is the layout of the records that it holds; and how a section's words change when a record is added.
 use mathlib.Core.Path.{_≡_, refl, sym, ap, _∙_, subst}
 use mathlib.Core.Logic.{_≢_, _⊎_, inl, inr}
-use mathlib.Core.Bool.{Bool, true, false, not, _&&_}
+use mathlib.Core.Bool.{true, false, not, _&&_}
 use mathlib.Core.List.{List, [], _∷_, _++_, append-nil, append-assoc}
 use Prim.Native.Nat.{ℕ, zero, suc, _+_, _-_, _*_, _≤_, _<_, zero-le}
 use native.Mathlib.Nat.{zero-add, not-suc-le-zero, le-of-suc-le-suc}
@@ -14,7 +14,7 @@ use Rattle.rules.specs.Records.{Event, History, State, history, number, sends}
 use Rattle.xdr.specs.Words.{word, bytes}
 use Rattle.rules.specs.Table.{heading, width, recordWords, usedWords, headingWords, sectionWords, sectionsWords, layout, eventOf, eventAt, recordsAt, start, sectionAt, sectionsFrom, recordOk, recordOkAt, recordsOk, zerosAt, sectionOk, sectionsOk, decoded, size}
 use Rattle.tables.specs.Sections.{SendsLaid}
-use Rattle.basics.proofs.Booleans.{Test, passes, fails, test, and-left, and-right}
+use Rattle.basics.proofs.Booleans.{Test, passes, fails, test, and-left, and-right, each-below}
 use Rattle.tables.proofs.Places.{At, at-left, at-right, at-append}
 use Rattle.tables.proofs.Laid.{Law, Legal, record-length, used-length, section-length, next, sections-length}
 use Rattle.xdr.proofs.Words.{Bytes, bytes-of}
@@ -135,12 +135,7 @@ used-of n E w p at (suc i) ok =
     k = at + width * i
 
 zeros-of : (w : ℕ → ℕ) (at m : ℕ) → zerosAt w at m ≡ true → (j : ℕ) → j < m → w (at + j) ≡ 0
-zeros-of w at zero ok j lt = absurd (not-suc-le-zero lt)
-zeros-of w at (suc m) ok j lt = go (decLt j m) (zeros-of w at m (and-left (zerosAt w at m) (eqb (w (at + m)) 0) ok) j)
-  where
-    go : Dec (j < m) → (j < m → w (at + j) ≡ 0) → w (at + j) ≡ 0
-    go (yes l) r = r l
-    go (no l) r = ap (λ (k : ℕ). w (at + k)) (let e : j ≡ m = omega arith in e) ∙ eqb-true (w (at + m)) 0 (and-right (zerosAt w at m) (eqb (w (at + m)) 0) ok)
+zeros-of w at m ok j lt = eqb-true (w (at + j)) 0 (each-below (zerosAt w at) (λ i. eqb (w (at + i)) 0) (λ k. refl) m ok j lt)
 
 -- a section from its words
 pub section-words : (E : ℕ) (w : ℕ → ℕ) (at : ℕ) (h : History) → length h ≤ E → w at ≡ length h → w (at + 1) ≡ number h → w (at + 2) ≡ sends h
@@ -171,15 +166,8 @@ records-legal n E w p at (suc i) ok =
 
 records-each : (n E : ℕ) (w : ℕ → ℕ) (p at c : ℕ) → recordsOk n E w p at c ≡ true → (i : ℕ) → i < c
     → recordOkAt n E p (recordsAt w at i) w (at + width * i) ≡ true
-records-each n E w p at zero ok i lt = absurd (not-suc-le-zero lt)
-records-each n E w p at (suc c) ok i lt = go (decLt i c) (records-each n E w p at c (and-left (recordsOk n E w p at c) (tested c) ok) i)
-  where
-    tested : ℕ → Bool
-    tested j = recordOkAt n E p (recordsAt w at j) w (at + width * j)
-
-    go : Dec (i < c) → (i < c → tested i ≡ true) → tested i ≡ true
-    go (yes l) r = r l
-    go (no l) r = ap tested (let e : i ≡ c = omega arith in e) ∙ and-right (recordsOk n E w p at c) (tested c) ok
+records-each n E w p at c ok i lt =
+    each-below (recordsOk n E w p at) (λ j. recordOkAt n E p (recordsAt w at j) w (at + width * j)) (λ k. refl) c ok i lt
 
 -- the words of a send: a search may read there what follows from the records before it
 sends-laid : (n E : ℕ) (w : ℕ → ℕ) (p at c : ℕ) → recordsOk n E w p at c ≡ true → SendsLaid w at c
@@ -230,12 +218,7 @@ section-of n E w p ok =
     }
 
 pub sections-each : (n E : ℕ) (w : ℕ → ℕ) (m : ℕ) → sectionsOk n E w m ≡ true → (p : ℕ) → p < m → sectionOk n E w p ≡ true
-sections-each n E w zero ok p lt = absurd (not-suc-le-zero lt)
-sections-each n E w (suc m) ok p lt = go (decLt p m) (sections-each n E w m (and-left (sectionsOk n E w m) (sectionOk n E w m) ok) p)
-  where
-    go : Dec (p < m) → (p < m → sectionOk n E w p ≡ true) → sectionOk n E w p ≡ true
-    go (yes l) r = r l
-    go (no l) r = ap (sectionOk n E w) (let e : p ≡ m = omega arith in e) ∙ and-right (sectionsOk n E w m) (sectionOk n E w m) ok
+sections-each n E w m ok p lt = each-below (sectionsOk n E w) (sectionOk n E w) (λ k. refl) m ok p lt
 
 from-length : (w : ℕ → ℕ) (E p m : ℕ) → length (sectionsFrom w E p m) ≡ m
 from-length w E p zero = refl

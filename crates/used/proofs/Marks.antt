@@ -443,7 +443,7 @@ module _ (kind : ℕ) {i : ℕ} {ms : List ℕ} (at : i ≡ kindIndex kind) (lis
         ex,
         wraps-below y (bitXor pair own) (getD floor i 0) yl (xor-lt 64 pair own pl ol) fl ey,
         wraps-below z (bitXor c (bitAnd n (getD ms (i + 1) 0))) (bitAnd n (getD ms i 0)) zl
-        (xor-lt 64 c (bitAnd n (getD ms (i + 1) 0)) cl (masked-low (getD ms (i + 1) 0))) (masked-low (getD ms i 0)) ez,
+            (xor-lt 64 c (bitAnd n (getD ms (i + 1) 0)) cl (masked-low (getD ms (i + 1) 0))) (masked-low (getD ms i 0)) ez,
         at,
         list,
         add-one (kindIndex kind),
@@ -537,9 +537,9 @@ module _ (n e p : ℕ) (w : ℕ → ℕ) (at i : ℕ) where
         ∙ and-assoc (clear m) (clear u && clear v) (clear z)
         ∙ test-next m kind {x = clear u && clear v && clear z} c h
         (λ o.
-            let x = number-before o in
-            let z = f o .1 in
-            rw (j, room-of, floor-of, own-of, y, x .0, z) (record-test n e p past a b nl el pl (omega arith) al bl kind d (x .1) dl))
+        let x = number-before o in
+        let z = f o .1 in
+        rw (j, room-of, floor-of, own-of, y, x .0, z) (record-test n e p past a b nl el pl (omega arith) al bl kind d (x .1) dl))
 
     pub found-next : {l : ℕ} → l ≡ cond (ltb (kindIndex kind) 3) pair last → {z : ℕ} → z ≡ k + getD counts (kindIndex kind) 0 → laid (i + 1) ≡ true
         → (l ≡ number (recordsAt w at (i + 1)) * upper) × (z ≡ sends (recordsAt w at (i + 1)))
