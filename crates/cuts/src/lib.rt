@@ -60,8 +60,8 @@ pub fn first_late(t: &[u8], at: usize, c: usize, sends: &[u16]) -> usize
     let mut i: usize = 0;
     while i < c {
         let w = at + shape::WIDTH * i;
-        let q = xdr::get_usize(t, w + 1) % 16;
-        if (xdr::get_usize(t, w) == 4) & (wide(sends[q]) < xdr::get_usize(t, w + 2)) {
+        let q = xdr::get_usize(t, w + shape::A) % 16;
+        if (xdr::get_usize(t, w) == 4) & (wide(sends[q]) < xdr::get_usize(t, w + shape::B)) {
             return i;
         }
         i += 1;
@@ -89,8 +89,8 @@ pub fn first_unsent(t: &[u8], at: usize, c: usize, e: usize, p: u8, to: &[u8]) -
         let x = note_index(
             e,
             to.len(),
-            xdr::get_usize(t, w + 1),
-            xdr::get_usize(t, w + 2),
+            xdr::get_usize(t, w + shape::A),
+            xdr::get_usize(t, w + shape::B),
         );
         if (xdr::get_usize(t, w) == 4) & (to[x] != p) {
             return i;
@@ -110,7 +110,7 @@ pub fn note(t: &[u8], at: usize, c: usize, from: usize, to: &mut [u8]) -> usize
     while i < c {
         let w = at + shape::WIDTH * i;
         let kind = xdr::get_usize(t, w);
-        to[from + k + 1] = shape::pick(kind == 3, xdr::get_usize(t, w + 1) % 32, 16) as u8;
+        to[from + k + 1] = shape::pick(kind == 3, xdr::get_usize(t, w + shape::A) % 32, 16) as u8;
         k = shape::pick(kind == 3, k + 1, k);
         i += 1;
     }
@@ -125,8 +125,8 @@ pub fn strike(t: &[u8], at: usize, c: usize, starts: &[u16], counts: &[u16], p: 
     let mut i: usize = 0;
     while i < c {
         let w = at + shape::WIDTH * i;
-        let q = xdr::get_usize(t, w + 1) % 16;
-        let k = xdr::get_usize(t, w + 2);
+        let q = xdr::get_usize(t, w + shape::A) % 16;
+        let k = xdr::get_usize(t, w + shape::B);
         let x = shape::pick(k <= wide(counts[q]), wide(starts[q]) + k, 0);
         let d = to[x];
         let got = (xdr::get_usize(t, w) == 4) & (d == p);

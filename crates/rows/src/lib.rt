@@ -41,7 +41,7 @@ pub fn checkpoint_row(t: &[u8], len: usize, p: usize) -> u32
     if e < xdr::get_usize(t, at) + 1 {
         return 9;
     }
-    if xdr::get_usize(t, at + 1) == n * e {
+    if xdr::get_usize(t, at + shape::NUMBER) == n * e {
         return 10;
     }
     0
@@ -102,7 +102,7 @@ fn message_row(t: &[u8], e: usize, at: usize, from: usize, p: usize, q: usize, k
     if scans::has_receipt(t, at + shape::HEADING, c, q, k) {
         return Message { row: 8, carried };
     }
-    if e < c + needed(xdr::get(t, at + 1) < carried) {
+    if e < c + needed(xdr::get(t, at + shape::NUMBER) < carried) {
         return Message { row: 9, carried };
     }
     Message { row: 0, carried }

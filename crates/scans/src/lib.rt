@@ -39,11 +39,11 @@ pub fn find_send(t: &[u8], at: usize, c: usize, k: usize) -> Sent
     let mut i = k - 1;
     while i < c {
         let w = at + shape::WIDTH * i;
-        if (xdr::get_usize(t, w) == 3) & (xdr::get_usize(t, w + 2) == k) {
+        if (xdr::get_usize(t, w) == 3) & (xdr::get_usize(t, w + shape::B) == k) {
             return Sent {
                 found: true,
-                carried: xdr::get(t, w + 3),
-                to: xdr::get(t, w + 1),
+                carried: xdr::get(t, w + shape::CARRIED),
+                to: xdr::get(t, w + shape::A),
             };
         }
         i += 1;
@@ -60,8 +60,8 @@ pub fn has_receipt(t: &[u8], at: usize, c: usize, q: usize, k: usize) -> bool
     while i < c {
         let w = at + shape::WIDTH * i;
         if (xdr::get_usize(t, w) == 4)
-            & (xdr::get_usize(t, w + 1) == q)
-            & (xdr::get_usize(t, w + 2) == k)
+            & (xdr::get_usize(t, w + shape::A) == q)
+            & (xdr::get_usize(t, w + shape::B) == k)
         {
             return true;
         }
@@ -83,7 +83,7 @@ pub fn position(t: &[u8], at: usize, c: usize, m: usize) -> usize
     while i < c {
         let w = at + shape::WIDTH * i;
         i += 1;
-        if m <= xdr::get_usize(t, w + 1) {
+        if m <= xdr::get_usize(t, w + shape::A) {
             let kind = xdr::get_usize(t, w);
             if !((kind == 4) | (kind == 3)) {
                 return i;

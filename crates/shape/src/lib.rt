@@ -4,11 +4,21 @@ ghost use mathlib.Core.Bool.{cond};
 ghost use Prim.Native.Nat.{_≤_};
 ghost use Rattle.rules.specs.Table.{inRange, size, start as startOf, mostWords};
 
-// The words of a section before its records: count, number, sends.
+// The words of a section before its records, and which they are behind its count of records.
 pub const HEADING: usize = 3;
 
-// The words of a record: kind, a, b, and what a send or receipt carries.
+pub const NUMBER: usize = 1;
+
+pub const SENDS: usize = 2;
+
+// The words of a record, and which they are behind its kind: a, b, and what a send or receipt carries.
 pub const WIDTH: usize = 4;
+
+pub const A: usize = 1;
+
+pub const B: usize = 2;
+
+pub const CARRIED: usize = 3;
 
 // Whether n and e are in their ranges.
 pub fn in_range(n: usize, e: usize) -> bool

@@ -11,8 +11,8 @@ pub fn checkpoint(table: &mut [u8], area: &mut [u8], p: u32) -> u32
         return row;
     }
     let at = shape::start(xdr::get_usize(table, 1), p as usize);
-    let x = xdr::get(table, at + 1) + 1;
-    let s = xdr::get(table, at + 2);
+    let x = xdr::get(table, at + shape::NUMBER) + 1;
+    let s = xdr::get(table, at + shape::SENDS);
     store::add_record(table, at, x, s, 1, x, 0, 0);
     xdr::put(area, 0, x);
     0
@@ -26,8 +26,8 @@ pub fn send(table: &mut [u8], area: &mut [u8], p: u32, q: u32) -> u32
         return row;
     }
     let at = shape::start(xdr::get_usize(table, 1), p as usize);
-    let x = xdr::get(table, at + 1);
-    let s = xdr::get(table, at + 2) + 1;
+    let x = xdr::get(table, at + shape::NUMBER);
+    let s = xdr::get(table, at + shape::SENDS) + 1;
     store::add_record(table, at, x, s, 3, q, s, x);
     store::answer(area, s, x);
     0

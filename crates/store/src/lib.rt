@@ -14,7 +14,7 @@ fn put_record(t: &mut [u8], i: usize, kind: u32, a: u32, b: u32, c: u32)
     ensures { λ _. ⌜ now (t .exit) ≡ putWords (now (t .entry)) i (kind ∷ a ∷ b ∷ c ∷ []) ⌝ }
 {
     xdr::put_three(t, i, kind, a, b);
-    xdr::put(t, i + 3, c);
+    xdr::put(t, i + shape::CARRIED, c);
 }
 
 // One record; x and s are the section's number and count of sends after it, and m is what it carries.
@@ -51,8 +51,8 @@ pub fn add_receipt(t: &mut [u8], at: usize, m: u32, q: u32, k: u32) -> u32
     requires { ⌜ (at ≤ mostWords) × (word (now t) at ≤ 1024) × (4 * (at + heading + width * (word (now t) at + cond (forcesAt (now t) at m) 2 1)) ≤ length (now t)) ⌝ }
     ensures { λ r. ⌜ (r ≡ cond (forcesAt (now (t .entry)) at m) 1 0) × (now (t .exit) ≡ withReceipt (now (t .entry)) at m q k) ⌝ }
 {
-    let x = xdr::get(t, at + 1);
-    let s = xdr::get(t, at + 2);
+    let x = xdr::get(t, at + shape::NUMBER);
+    let s = xdr::get(t, at + shape::SENDS);
     if x < m {
         add_forced(t, at, s, m, q, k);
         return 1;

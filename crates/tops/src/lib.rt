@@ -29,7 +29,7 @@ fn top(t: &[u8], e: usize, p: usize, down: bool) -> cuts::Part
 {
     let at = shape::start(e, p);
     let c = xdr::get_usize(t, at);
-    let k = xdr::get_usize(t, at + 2);
+    let k = xdr::get_usize(t, at + shape::SENDS);
     if down {
         return cuts::back_to(t, at + shape::HEADING, c, k, c);
     }

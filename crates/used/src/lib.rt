@@ -100,8 +100,8 @@ fn used(
             masks,
             own,
             xdr::get_usize(t, w),
-            xdr::pair(t, w + 1),
-            xdr::get_usize(t, w + 3),
+            xdr::pair(t, w + shape::A),
+            xdr::get_usize(t, w + shape::CARRIED),
         );
         i += 1;
     }
@@ -124,7 +124,7 @@ fn front(
 {
     let c = xdr::get_usize(t, at);
     let s = used(t, n, e, p, room, floor, masks, at + shape::HEADING, c);
-    (s.marks & TOP_TOP) | (xdr::pair(t, at + 1) ^ (s.last | s.sends))
+    (s.marks & TOP_TOP) | (xdr::pair(t, at + shape::NUMBER) ^ (s.last | s.sends))
 }
 
 // Whether that holds of all n sections.
