@@ -22,8 +22,8 @@ objects() {
     compiled -c -o "$made/bench.o" bench/bench.c && compiled -c -o "$made/peer.o" bench/peer.c
 }
 
-# bench_of PROGRAM WORDS..: links the bench, with these words for the compiler. The peer comes behind the bench: its time changes by up
-# to a fifth with where the linker puts it, and there it is fastest.
+# bench_of PROGRAM WORDS..: links the bench, with these words for the compiler. The peer comes behind the bench, always: its time changes
+# by up to a fifth with where the linker puts it (docs/DECISIONS.md, "Speed").
 bench_of() {
     local program=$1
     shift

@@ -1,7 +1,7 @@
 -- Laws of numbers put together bit by bit.
 use mathlib.Core.Path.{_≡_}
 use mathlib.Core.Bool.{_&&_}
-use Prim.Native.Nat.{ℕ, _+_, _*_, _≤_}
+use Prim.Native.Nat.{ℕ, _+_, _*_, _≤_, _<_}
 use native.Mathlib.Omega.{arith}
 use lib.Dec.{eqb}
 use lib.Bits.{bitAnd, bitOr, bitXor, or-add-and, and-le-l, and-le-r, xor-add-and, xor-self}
@@ -44,3 +44,15 @@ xor-zero x y = go (test (eqb x y))
     go : Test (eqb x y) → eqb (bitXor x y) 0 ≡ eqb x y
     go (passes h) = rw h (eq-eqb (bitXor x y) 0 (xor-none x y (eqb-true x y h)))
     go (fails h) = rw h (ne-eqb (bitXor x y) 0 (λ z. eqb-false x y h (xor-same x y z)))
+
+-- two numbers of two halves each
+pub halves-same : (x y u v : ℕ) → y < 4294967296 → v < 4294967296 → eqb (x * 4294967296 + y) (u * 4294967296 + v) ≡ (eqb x u && eqb y v)
+halves-same x y u v yl vl = go (test (eqb x u)) (test (eqb y v))
+  where
+    go : Test (eqb x u) → Test (eqb y v) → eqb (x * 4294967296 + y) (u * 4294967296 + v) ≡ (eqb x u && eqb y v)
+    go (passes a) (passes b) =
+        let p = eqb-true x u a in
+        let q = eqb-true y v b in
+        rw (a, b, eq-eqb (x * 4294967296 + y) (u * 4294967296 + v) (omega arith))
+    go (passes a) (fails b) = let q = eqb-false y v b in rw (a, b, ne-eqb (x * 4294967296 + y) (u * 4294967296 + v) (omega arith))
+    go (fails a) b = let q = eqb-false x u a in rw (a, ne-eqb (x * 4294967296 + y) (u * 4294967296 + v) (omega arith))

@@ -90,7 +90,7 @@ fn needed(forces: bool) -> usize
 
 // Message k of q, whose section starts at word `from`, to p, whose section starts at word `at`.
 fn message_row(t: &[u8], e: usize, at: usize, from: usize, p: usize, q: usize, k: usize) -> Message
-    requires { ⌜ (e ≤ 1024) × SectionIn (now t) e at × SectionIn (now t) e from × SendsLaid (word (now t)) (from + heading) (word (now t) from) ⌝ }
+    requires { ⌜ (e ≤ 1024) × (q ≤ 16) × SectionIn (now t) e at × SectionIn (now t) e from × SendsLaid (word (now t)) (from + heading) (word (now t) from) ⌝ }
     ensures { λ r. ⌜ (r .row ≡ first (receiptRowsAt (now (t .entry)) e at from p q k)) × (r .row ≡ 0 → r .carried ≡ carried (sectionOf (word (now (t .entry))) from) k) ⌝ }
 {
     let c = xdr::get_usize(t, at);

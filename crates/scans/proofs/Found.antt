@@ -14,6 +14,7 @@ use Rattle.rules.specs.Table.{width, eventAt, recordsAt}
 use Rattle.rules.specs.Lines.{atLeast, numbered}
 use Rattle.tables.specs.Sections.{SendsLaid}
 use Rattle.scans.specs.Sends.{Answers}
+use Rattle.basics.proofs.Bits.{halves-same}
 use Rattle.basics.proofs.Older.{Older, same, newer}
 use Rattle.basics.proofs.Booleans.{Test, passes, fails, test, or-false, or-right, false-right}
 use Rattle.records.proofs.Histories.{sends-older, carried-older, destination-older}
@@ -163,6 +164,11 @@ module _ (w : ℕ → ℕ) (at i k : ℕ) {kind b c : ℕ} (x : kind ≡ w (at +
           omega arith
 
 -- ---- a receipt of (q, k)
+
+-- kind x and sender y compared at once, then the send number
+pub receipt-test : (q k x y b : ℕ) {pair : ℕ} → pair ≡ x * 4294967296 + y → y < 4294967296 → q < 4294967296
+    → (eqb pair (4 * 4294967296 + q) && eqb b k) ≡ (eqb x 4 && eqb y q && eqb b k)
+receipt-test q k x y b e yl ql = rw e (ap (λ (z : Bool). z && eqb b k) (halves-same x y 4 q yl ql))
 
 module _ (q k : ℕ) where
   receipt-older : {h g : History} → Older h g → hasReceipt h q k ≡ true → hasReceipt g q k ≡ true

@@ -1,7 +1,7 @@
 // Scans of a section's records, oldest first. Each ends where it has found what it looks for.
 ghost use mathlib.Core.Path.{_≡_};
 ghost use mathlib.Core.Bool.{false};
-ghost use Prim.Native.Nat.{_+_, _*_, _≤_};
+ghost use Prim.Native.Nat.{_+_, _*_, _≤_, _<_};
 ghost use lib.ListN.{length};
 ghost use Rattle.xdr.specs.Words.{word};
 ghost use Rattle.rules.specs.Records.{hasReceipt};
@@ -51,18 +51,16 @@ pub fn find_send(t: &[u8], at: usize, c: usize, k: usize) -> Sent
     missing()
 }
 
-// Whether the first c records from word `at` on have a receipt of (q, k).
+// Whether the first c records from word `at` on have a receipt of (q, k). Kind and sender are compared at once, as one number.
 pub fn has_receipt(t: &[u8], at: usize, c: usize, q: usize, k: usize) -> bool
-    requires { ⌜ (c ≤ 1024) × (4 * (at + width * c) ≤ length (now t)) ⌝ }
+    requires { ⌜ (c ≤ 1024) × (4 * (at + width * c) ≤ length (now t)) × (q < 4294967296) ⌝ }
     ensures { λ r. ⌜ r ≡ hasReceipt (recordsAt (word (now (t .entry))) at c) q k ⌝ }
 {
+    let want = 4 * 4294967296 + q;
     let mut i: usize = 0;
     while i < c {
         let w = at + shape::WIDTH * i;
-        if (xdr::get_usize(t, w) == 4)
-            & (xdr::get_usize(t, w + shape::A) == q)
-            & (xdr::get_usize(t, w + shape::B) == k)
-        {
+        if (xdr::pair(t, w) == want) & (xdr::get_usize(t, w + shape::B) == k) {
             return true;
         }
         i += 1;

@@ -4,26 +4,13 @@ use mathlib.Core.Bool.{true, _&&_}
 use Prim.Native.Nat.{ℕ, _+_, _-_, _*_, _<_}
 use lib.Dec.{eqb}
 use lib.Bits.{bitAnd, bitOr, bitXor, or-shifted}
-use native.Mathlib.Omega.{arith}
-use borrow.Author.Tests.{eqb-true, eqb-false, eq-eqb, ne-eqb}
 use Rattle.rules.specs.Records.{number, sends}
 use Rattle.rules.specs.Table.{heading, recordsAt, recordsOk}
 use Rattle.used.specs.Marks.{clear, top, upper, wrap, pairOf}
 use Rattle.tables.specs.Sections.{frontOk}
 use Rattle.used.proofs.Marks.{marks-zero}
 use Rattle.basics.proofs.Booleans.{Test, passes, fails, test}
-use Rattle.basics.proofs.Bits.{or-zero, xor-zero}
-
-halves-same : (x y u v : ℕ) → y < upper → v < upper → eqb (x * upper + y) (u * upper + v) ≡ (eqb x u && eqb y v)
-halves-same x y u v yl vl = go (test (eqb x u)) (test (eqb y v))
-  where
-    go : Test (eqb x u) → Test (eqb y v) → eqb (x * upper + y) (u * upper + v) ≡ (eqb x u && eqb y v)
-    go (passes a) (passes b) =
-        let p = eqb-true x u a in
-        let q = eqb-true y v b in
-        rw (a, b, eq-eqb (x * upper + y) (u * upper + v) (omega arith))
-    go (passes a) (fails b) = let q = eqb-false y v b in rw (a, b, ne-eqb (x * upper + y) (u * upper + v) (omega arith))
-    go (fails a) b = let q = eqb-false x u a in rw (a, ne-eqb (x * upper + y) (u * upper + v) (omega arith))
+use Rattle.basics.proofs.Bits.{or-zero, xor-zero, halves-same}
 
 module _ (e : ℕ) (w : ℕ → ℕ) {at c : ℕ} (h : c ≡ w at) where
   -- marks, and the heading's number and count of sends beside those that were found

@@ -14,7 +14,7 @@ get-usize-requires-2 : tie.Need-get-usize-requires-2
 get-usize-requires-2 c κs = search needs
 
 find-send-requires : tie.Need-find-send-requires
-find-send-requires c κs = (search needs, search needs, rw (c .get-usize2 .ensures .0) (c .before .before .before .pre .3))
+find-send-requires c κs = (search needs, search needs, rw (c .get-usize2 .ensures .0) (c .before .before .before .pre .4))
 
 cast-if1 : tie.Need-cast-if1
 cast-if1 c = search needs

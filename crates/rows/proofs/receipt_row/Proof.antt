@@ -57,7 +57,7 @@ message-row-requires c κs =
     let h = head (a .t .now) (w .acting .table) (a .p) (w .acting .below) (c .before .before .get-usize .ensures .0)
     (c .before .start .ensures .0) in
     let g = head (a .t .now) (w .acting .table) (a .q) (w .below) (c .before .before .get-usize .ensures .0) (c .start2 .ensures .0) in
-    (h .most, (h .near, h .short, h .inside), (g .near, g .short, g .inside), g .told)
+    (h .most, omega (arith, w .below, w .acting .table .range .processes), (h .near, h .short, h .inside), (g .near, g .short, g .inside), g .told)
 
 returns-2 : tie.Need-returns-2
 returns-2 c =

@@ -1,20 +1,26 @@
-use Prim.Native.Nat.{_-_, _≤_}
+use Prim.Native.Nat.{_+_, _-_, _*_, _≤_}
 use mathlib.Core.Path.{_≡_, refl, sym, ap, _∙_}
 use mathlib.Core.Bool.{false}
 use native.Mathlib.Omega.{arith}
 use borrow.Author.Needs.{needs}
 use Rattle.xdr.specs.Words.{word}
 use Rattle.rules.specs.Records.{hasReceipt}
-use Rattle.rules.specs.Table.{recordsAt}
-use Rattle.scans.proofs.Found.{receipt-after, receipt-found}
+use Rattle.rules.specs.Table.{width, recordsAt}
+use Rattle.scans.proofs.Found.{receipt-test, receipt-after, receipt-found}
 use Rattle.scans.proofs.has_receipt.Statement.{statement}
 use Rattle.scans.proofs.has_receipt.Tie as tie
 
 abbrev Inv-loop : tie.InvT-loop
-Inv-loop t at c q k i₀ i = (hasReceipt (recordsAt (word t) at i) q k ≡ false) × (i ≤ c)
+Inv-loop t at c q k want i₀ i = (hasReceipt (recordsAt (word t) at i) q k ≡ false) × (i ≤ c)
 
 abbrev μ-loop : tie.MeasureT-loop
-μ-loop t at c q k i₀ i = c - i
+μ-loop t at c q k want i₀ i = c - i
+
+mul-want : tie.Need-mul-want Inv-loop μ-loop
+mul-want c = search needs
+
+add-want : tie.Need-add-want Inv-loop μ-loop
+add-want c = search needs
 
 loop-holds : tie.Need-loop-holds Inv-loop μ-loop
 loop-holds c = (refl, search needs)
@@ -25,28 +31,26 @@ mul-w c = search needs
 add-w : tie.Need-add-w Inv-loop μ-loop
 add-w c = search needs
 
-get-usize-requires : tie.Need-get-usize-requires Inv-loop μ-loop
-get-usize-requires c κs = search needs
+pair-requires : tie.Need-pair-requires Inv-loop μ-loop
+pair-requires c κs = search needs
 
 add-get-usize : tie.Need-add-get-usize Inv-loop μ-loop
 add-get-usize c = search needs
 
-get-usize-requires-2 : tie.Need-get-usize-requires-2 Inv-loop μ-loop
-get-usize-requires-2 c κs = search needs
-
-add-get-usize-2 : tie.Need-add-get-usize-2 Inv-loop μ-loop
-add-get-usize-2 c = search needs
-
-get-usize-requires-3 : tie.Need-get-usize-requires-3 Inv-loop μ-loop
-get-usize-requires-3 c κs = search needs
+get-usize-requires : tie.Need-get-usize-requires Inv-loop μ-loop
+get-usize-requires c κs = search needs
 
 returns : tie.Need-returns Inv-loop μ-loop
 returns c =
     let r = c .before in
-    let s = r .before .before .before .before in
-    let a = s .before .before .args in
-    receipt-found (a .q) (a .k) (word (a .t .now)) (a .at) (s .loop .i) (r .before .before .get-usize .ensures .0) (r .before .get-usize2 .ensures .0)
-    (r .get-usize3 .ensures .0) (s .loop .inv .0) (r .before .before .before .loop-test .taken) (c .if1 .taken)
+    let p = r .before in
+    let s = p .before .before in
+    let start = s .before .before in
+    let a = start .args in
+    let w = word (a .t .now) in
+    let here = a .at + width * s .loop .i in
+    receipt-found (a .q) (a .k) w (a .at) (s .loop .i) refl refl (r .get-usize .ensures .0) (s .loop .inv .0) (p .before .loop-test .taken)
+    (sym (receipt-test (a .q) (a .k) (w here) (w (here + 1)) (r .get-usize .result) (p .pair .ensures .0) (p .pair .ensures .2) (start .pre .2)) ∙ c .if1 .taken)
 
 add-i : tie.Need-add-i Inv-loop μ-loop
 add-i c = search needs
@@ -57,10 +61,15 @@ loop-less c = search needs
 loop-again : tie.Need-loop-again Inv-loop μ-loop
 loop-again c =
     let r = c .before in
-    let s = r .before .before .before .before in
-    let a = s .before .before .args in (
-      receipt-after (a .q) (a .k) (word (a .t .now)) (a .at) (s .loop .i) (r .before .before .get-usize .ensures .0) (r .before .get-usize2 .ensures .0)
-          (r .get-usize3 .ensures .0) (s .loop .inv .0) ∙ c .if1 .left,
+    let p = r .before in
+    let s = p .before .before in
+    let start = s .before .before in
+    let a = start .args in
+    let w = word (a .t .now) in
+    let here = a .at + width * s .loop .i in (
+      receipt-after (a .q) (a .k) w (a .at) (s .loop .i) refl refl (r .get-usize .ensures .0) (s .loop .inv .0)
+          ∙ sym (receipt-test (a .q) (a .k) (w here) (w (here + 1)) (r .get-usize .result) (p .pair .ensures .0) (p .pair .ensures .2) (start .pre .2))
+          ∙ c .if1 .left,
       search needs,
     )
 
@@ -76,14 +85,14 @@ has-receipt-spec =
     (tie.spec
     Inv-loop
     μ-loop
+    mul-want
+    add-want
     loop-holds
     mul-w
     add-w
-    get-usize-requires
+    pair-requires
     add-get-usize
-    get-usize-requires-2
-    add-get-usize-2
-    get-usize-requires-3
+    get-usize-requires
     returns
     add-i
     loop-less
