@@ -157,7 +157,7 @@ other-destination = refl
 abbrev twoRecords : ℕ → List ℕ → List ℕ → List ℕ
 twoRecords s first second = bytes (2 ∷ 2 ∷ 2 ∷ 3 ∷ s ∷ (first ++ second ++ replicate 11 0))
 
--- a checkpoint numbered 3, and the fourth word c of a send, of a receipt and of a checkpoint
+-- records with the fourth word c: a checkpoint numbered 3, send 1 to process 1, a receipt of send 2 of process 1
 abbrev save : ℕ → List ℕ
 save c = 1 ∷ 3 ∷ 0 ∷ c ∷ []
 

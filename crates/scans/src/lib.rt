@@ -17,6 +17,7 @@ pub struct Sent {
     pub to: u32,
 }
 
+// The answer where send k isn't there.
 fn missing() -> Sent
     ensures { λ r. ⌜ (r .found ≡ false) × (r .carried ≡ 0) × (r .to ≡ 0) ⌝ }
 {
@@ -51,7 +52,7 @@ pub fn find_send(t: &[u8], at: usize, c: usize, k: usize) -> Sent
     missing()
 }
 
-// Whether the first c records from word `at` on have a receipt of (q, k). Kind and sender are compared at once, as one number.
+// Whether the first c records from word `at` on have a receipt of (q, k). Kind 4 and sender q are compared at once, as a pair.
 pub fn has_receipt(t: &[u8], at: usize, c: usize, q: usize, k: usize) -> bool
     requires { ⌜ (c ≤ 1024) × (4 * (at + width * c) ≤ length (now t)) × (q < 4294967296) ⌝ }
     ensures { λ r. ⌜ r ≡ hasReceipt (recordsAt (word (now (t .entry))) at c) q k ⌝ }

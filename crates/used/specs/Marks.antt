@@ -71,8 +71,8 @@ above pair t room = (bitXor pair t + room) % wrap
 abbrev pub below : ℕ → ℕ → ℕ → ℕ
 below pair own floor = (floor + (wrap - bitXor pair own)) % wrap
 
--- what is left of x, the number before the record, less its fourth word c: a receipt's is at most x, other kinds' at most 0, where a send's
--- becomes 0 if it is x. It is marked where c isn't.
+-- the difference for the fourth word c of a record whose kind stands at i, where x is the number before it: c is taken from x for a
+-- receipt, else from 0, and for a send it becomes 0 first where it is x. So it is marked where c isn't what it may be.
 abbrev pub beyond : ℕ → ℕ → ℕ → ℕ
 beyond x c i = (bitAnd x (getD masks i 0) + (wrap - bitXor c (bitAnd x (getD masks (i + 1) 0)))) % wrap
 
