@@ -57,14 +57,10 @@ picks x y e = ap (λ (c : Bool). cond c x y) e
 pub skips : {A : Type 0} {b : Bool} (x y : A) → b ≡ false → cond b x y ≡ y
 skips x y e = ap (λ (c : Bool). cond c x y) e
 
--- one value where either test holds, or where both do
+-- one value where either test holds
 pub either : {A : Type 0} (x y : Bool) (u v : A) → cond x u (cond y u v) ≡ cond (x || y) u v
 either true y u v = refl
 either false y u v = refl
-
-pub both : {A : Type 0} (x y : Bool) (u v : A) → cond x (cond y u v) v ≡ cond (x && y) u v
-both true y u v = refl
-both false y u v = refl
 
 -- a test of all numbers below m that asks one after the other holds of each
 pub each-below : (all f : ℕ → Bool) → ((m : ℕ) → all (suc m) ≡ (all m && f m)) → (m : ℕ) → all m ≡ true → (i : ℕ) → i < m → f i ≡ true

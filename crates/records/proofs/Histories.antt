@@ -7,7 +7,7 @@ use native.Mathlib.Nat.{le-refl, le-trans}
 use native.Mathlib.Omega.{arith}
 use lib.Dec.{leb, ltb, eqb}
 use borrow.Author.Tests.{ltb-true, leb-true, eqb-true, eqb-false, lt-ltb, le-leb, eq-eqb, ne-eqb}
-use Rattle.rules.specs.Records.{Event, basic, forced, sent, received, History, number, sends, carried, destination, hasSend}
+use Rattle.rules.specs.Records.{Event, basic, forced, sent, received, History, number, sends, ofSend, carried, destination, hasSend}
 use Rattle.basics.proofs.Older.{Older, same, newer}
 use Rattle.basics.proofs.Booleans.{Test, passes, fails, test}
 
@@ -23,29 +23,30 @@ pub sends-older : {h g : History} → Older h g → sends h ≤ sends g
 sends-older {h} same = le-refl (sends h)
 sends-older (newer {e} {g} o) = le-trans (sends-older o) (sends-cons e g)
 
-carried-cons : (e : Event) (h : History) (k : ℕ) → k ≤ sends h → carried (e ∷ h) k ≡ carried h k
-carried-cons (basic m) h k le = refl
-carried-cons (forced m) h k le = refl
-carried-cons (sent q) h k le = rw (ne-eqb k (suc (sends h)) (omega arith))
-carried-cons (received q j c) h k le = refl
-
 -- what is asked of the k-th send stays what it was
-kept-older : (f : History → ℕ → ℕ) → ((e : Event) (h : History) (k : ℕ) → k ≤ sends h → f (e ∷ h) k ≡ f h k)
-    → {h g : History} → Older h g → (k : ℕ) → k ≤ sends h → f g k ≡ f h k
-kept-older f keep same k le = refl
-kept-older f keep (newer {e} {g} o) k le = keep e g k (le-trans le (sends-older o)) ∙ kept-older f keep o k le
+module _ (f : History → ℕ → ℕ) where
+  of-send-cons : (e : Event) (h : History) (k : ℕ) → k ≤ sends h → ofSend f (e ∷ h) k ≡ ofSend f h k
+  of-send-cons (basic m) h k le = refl
+  of-send-cons (forced m) h k le = refl
+  of-send-cons (sent q) h k le = rw (ne-eqb k (suc (sends h)) (omega arith))
+  of-send-cons (received q j c) h k le = refl
+
+  of-send-older : {h g : History} → Older h g → (k : ℕ) → k ≤ sends h → ofSend f g k ≡ ofSend f h k
+  of-send-older same k le = refl
+  of-send-older (newer {e} {g} o) k le = of-send-cons e g k (le-trans le (sends-older o)) ∙ of-send-older o k le
+
+  -- of a send that is there with the records before it
+  pub of-send-at : {q : ℕ} {before h : History} → Older (sent q ∷ before) h → {k : ℕ} → k ≡ suc (sends before) → ofSend f h k ≡ f before q
+  of-send-at {before} o {k} e = of-send-older o k (omega arith) ∙ rw (eq-eqb k (suc (sends before)) e)
 
 pub carried-older : {h g : History} → Older h g → (k : ℕ) → k ≤ sends h → carried g k ≡ carried h k
-carried-older = kept-older carried carried-cons
+carried-older = of-send-older (λ before q. number before)
 
-destination-cons : (e : Event) (h : History) (k : ℕ) → k ≤ sends h → destination (e ∷ h) k ≡ destination h k
-destination-cons (basic m) h k le = refl
-destination-cons (forced m) h k le = refl
-destination-cons (sent q) h k le = rw (ne-eqb k (suc (sends h)) (omega arith))
-destination-cons (received q j c) h k le = refl
+pub carried-at : {q : ℕ} {before h : History} → Older (sent q ∷ before) h → {k : ℕ} → k ≡ suc (sends before) → carried h k ≡ number before
+carried-at = of-send-at (λ before q. number before)
 
 pub destination-older : {h g : History} → Older h g → (k : ℕ) → k ≤ sends h → destination g k ≡ destination h k
-destination-older = kept-older destination destination-cons
+destination-older = of-send-older (λ before q. q)
 
 -- ---- a message that is held
 
@@ -79,16 +80,10 @@ pub record SendOf (h : History) (k : ℕ) : Type 0 where
   pub rest : History
   pub there : Older (sent (destination h k) ∷ rest) h
   pub rank : k ≡ suc (sends rest)
-  pub carries : carried h k ≡ number rest
 
 abbrev send-later : (e : Event) (h : History) (k : ℕ) → k ≤ sends h → SendOf h k → SendOf (e ∷ h) k
 send-later e h k le S =
-    record {
-      rest = S .rest;
-      there = rw (destination-cons e h k le) (newer (S .there));
-      rank = S .rank;
-      carries = carried-cons e h k le ∙ S .carries;
-    }
+    record { rest = S .rest; there = rw (of-send-cons (λ before q. q) e h k le) (newer (S .there)); rank = S .rank }
 
 pub send-of : (h : History) (k : ℕ) → 0 < k → k ≤ sends h → SendOf h k
 send-of [] k pos le = absurd (omega arith)
@@ -98,7 +93,7 @@ send-of (received q j c ∷ h) k pos le = send-later (received q j c) h k le (se
 send-of (sent q ∷ h) k pos le = go (test (eqb k (suc (sends h)))) (send-of h k pos)
   where
     go : Test (eqb k (suc (sends h))) → (k ≤ sends h → SendOf h k) → SendOf (sent q ∷ h) k
-    go (passes e) r = record { rest = h; there = rw e same; rank = eqb-true k (suc (sends h)) e; carries = rw e }
+    go (passes e) r = record { rest = h; there = rw e same; rank = eqb-true k (suc (sends h)) e }
     go (fails e) r =
         let ne = eqb-false k (suc (sends h)) e in
         let l : k ≤ sends h = omega arith in

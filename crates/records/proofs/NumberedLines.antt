@@ -13,7 +13,7 @@ use Rattle.rules.specs.Records.{Event, basic, forced, sent, received, History, 
 use Rattle.rules.specs.Lines.{upto, part, orphan, NoOrphan, atLeast, orElse, firstNumbered, orCount, numbered, numberedLine}
 use Rattle.basics.proofs.Older.{Older, same, newer, older-length}
 use Rattle.basics.proofs.Booleans.{Test, passes, fails, test, or-false}
-use Rattle.records.proofs.Histories.{Held, holds-held, held-holds, holds-older, send-of, each-older, Rising}
+use Rattle.records.proofs.Histories.{Held, carried-at, holds-held, held-holds, holds-older, send-of, each-older, Rising}
 use Rattle.records.proofs.Made.{Sound, Source, Sourced}
 
 -- ---- positions and older parts
@@ -142,8 +142,8 @@ module _ (n E : ℕ) (s : State) (M : Sound n E s) (N : ℕ) where
       let H = holds-held h p k e in
       let S = send-of h k (H .positive) (H .counted) in
       let R : Rising (sent (destination h k) ∷ S .rest) = each-older _ (S .there) (M .rising q) in
-      let x = S .carries in
       let y = S .rank in
+      let x = carried-at (S .there) y in
       let u : reached N (S .rest) ≡ false = reached-below N (S .rest) (R .1) (omega arith) in
       let held : Held (sent (destination h k) ∷ S .rest) p k =
       record { positive = H .positive; counted = omega arith; to = rw (eq-eqb k (suc (sends (S .rest))) y) (H .to) }

@@ -40,21 +40,21 @@ sends (forced m ∷ h) = sends h
 sends (sent q ∷ h) = suc (sends h)
 sends (received q k c ∷ h) = sends h
 
+-- what f gives for the k-th send, from the records before it and its destination; 0 where there is no k-th send
+abbrev pub ofSend : (History → ℕ → ℕ) → History → ℕ → ℕ
+ofSend f [] k = 0
+ofSend f (basic m ∷ h) k = ofSend f h k
+ofSend f (forced m ∷ h) k = ofSend f h k
+ofSend f (sent q ∷ h) k = cond (eqb k (suc (sends h))) (f h q) (ofSend f h k)
+ofSend f (received q j c ∷ h) k = ofSend f h k
+
 -- the carried number of the k-th send: the number of the sender's last checkpoint before it
 abbrev pub carried : History → ℕ → ℕ
-carried [] k = 0
-carried (basic m ∷ h) k = carried h k
-carried (forced m ∷ h) k = carried h k
-carried (sent q ∷ h) k = cond (eqb k (suc (sends h))) (number h) (carried h k)
-carried (received q j c ∷ h) k = carried h k
+carried h k = ofSend (λ before q. number before) h k
 
 -- the destination of the k-th send
 abbrev pub destination : History → ℕ → ℕ
-destination [] k = 0
-destination (basic m ∷ h) k = destination h k
-destination (forced m ∷ h) k = destination h k
-destination (sent q ∷ h) k = cond (eqb k (suc (sends h))) q (destination h k)
-destination (received q j c ∷ h) k = destination h k
+destination h k = ofSend (λ before q. q) h k
 
 -- the k-th send is there, with p as its destination
 abbrev pub hasSend : History → ℕ → ℕ → Bool

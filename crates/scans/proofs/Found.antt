@@ -1,5 +1,5 @@
 -- Where a scan ends: what it has found among the records that it read is what is there among all.
-use mathlib.Core.Path.{_≡_, refl, sym, ap, _∙_}
+use mathlib.Core.Path.{_≡_, refl, sym, ap, subst, _∙_}
 use mathlib.Core.Logic.{_≢_, _⊎_, inl, inr}
 use mathlib.Core.Bool.{Bool, true, false, not, _&&_, _||_, and-false, and-eq-true-iff, false≢true}
 use mathlib.Core.List.{[], _∷_}
@@ -9,7 +9,7 @@ use native.Mathlib.Omega.{arith}
 use lib.Dec.{eqb, leb, ltb}
 use lib.ListN.{length}
 use borrow.Author.Tests.{ltb-true, ltb-false, lt-ltb, le-leb, lt-leb, eqb-true, eqb-false, eq-eqb, ne-eqb}
-use Rattle.rules.specs.Records.{Event, basic, forced, sent, received, History, number, sends, carried, destination, hasReceipt}
+use Rattle.rules.specs.Records.{Event, basic, forced, sent, received, History, number, sends, ofSend, hasReceipt}
 use Rattle.rules.specs.Table.{width, eventAt, recordsAt}
 use Rattle.rules.specs.Lines.{atLeast, numbered}
 use Rattle.tables.specs.Sections.{SendsLaid}
@@ -17,10 +17,10 @@ use Rattle.scans.specs.Sends.{Answers}
 use Rattle.basics.proofs.Bits.{halves-same}
 use Rattle.basics.proofs.Older.{Older, same, newer}
 use Rattle.basics.proofs.Booleans.{Test, passes, fails, test, or-false, or-right, false-right}
-use Rattle.records.proofs.Histories.{sends-older, carried-older, destination-older}
+use Rattle.records.proofs.Histories.{sends-older, of-send-at, carried-at}
 use Rattle.records.proofs.NumberedLines.{reached, numbered-cons, numbered-le}
 use Rattle.tables.proofs.WellLaid.{records-length}
-use Rattle.tables.proofs.Scans.{least-event, sends-next, carried-next, destination-next, receipt-next, first-older, sends-at-most}
+use Rattle.tables.proofs.Scans.{least-event, sends-next, receipt-next, first-older, sends-at-most}
 
 -- ---- the position of the first checkpoint with number N or more
 
@@ -84,12 +84,12 @@ module _ (N : ℕ) where
 abbrev Absent : History → ℕ → Type 0
 Absent h k = (k ≡ 0) ⊎ (sends h < k)
 
-nothing : (h : History) (k : ℕ) → Absent h k → (carried h k ≡ 0) × (destination h k ≡ 0)
-nothing [] k a = (refl, refl)
-nothing (basic m ∷ h) k a = nothing h k a
-nothing (forced m ∷ h) k a = nothing h k a
-nothing (received q j c ∷ h) k a = nothing h k a
-nothing (sent q ∷ h) k a = rw (ne-eqb k (suc (sends h)) (other a)) (nothing h k (before a))
+nothing : (f : History → ℕ → ℕ) (h : History) (k : ℕ) → Absent h k → ofSend f h k ≡ 0
+nothing f [] k a = refl
+nothing f (basic m ∷ h) k a = nothing f h k a
+nothing f (forced m ∷ h) k a = nothing f h k a
+nothing f (received q j c ∷ h) k a = nothing f h k a
+nothing f (sent q ∷ h) k a = rw (ne-eqb k (suc (sends h)) (other a)) (nothing f h k (before a))
   where
     other : Absent (sent q ∷ h) k → k ≢ suc (sends h)
     other (inl e) f = omega arith
@@ -100,7 +100,7 @@ nothing (sent q ∷ h) k a = rw (ne-eqb k (suc (sends h)) (other a)) (nothing h 
     before (inr l) = inr (omega arith)
 
 pub send-none : (h : History) (k : ℕ) → Absent h k → {f : Bool} {m d : ℕ} → (f ≡ false) × (m ≡ 0) × (d ≡ 0) → Answers k h f m d
-send-none h k a r = let n = nothing h k a in (r .0 ∙ go a, r .1 ∙ sym (n .0), r .2 ∙ sym (n .1))
+send-none h k a r = (r .0 ∙ go a, r .1 ∙ sym (nothing (λ g q. number g) h k a), r .2 ∙ sym (nothing (λ g q. q) h k a))
   where
     go : Absent h k → false ≡ (ltb 0 k && leb k (sends h))
     go (inl e) = rw e
@@ -137,17 +137,16 @@ module _ (w : ℕ → ℕ) (at i k : ℕ) {kind b c : ℕ} (x : kind ≡ w (at +
 
   pub send-found : {a m : ℕ} → a ≡ w (at + width * i + 1) → m ≡ w (at + width * i + 3) → (eqb kind 3 && eqb b k) ≡ true
       → Answers k (recordsAt w at c) true m a
-  send-found y u t =
-      let o = first-older w at (i + 1) c (omega arith) in
+  send-found {a} y u t =
       let is = and-eq-true-iff (eqb kind 3) (eqb b k) .0 t in
       let r = told (is .0) in
-      let d : k ≡ s + 1 = (let e = eqb-true b k (is .1) in let f = r .0 in omega arith) in
-      let v : s + 1 ≡ sends (recordsAt w at (i + 1)) = sends-next w at i x refl (rw (is .0) refl) in
-      let le : k ≤ sends (recordsAt w at (i + 1)) = omega arith in
-      let f = sends-older o in (
+      let rank : k ≡ suc s = sym (eqb-true b k (is .1)) ∙ r .0 in
+      let is-sent : eventAt w (at + width * i) ≡ sent a = rw (sym x ∙ eqb-true kind 3 (is .0), y) in
+      let o = subst (λ (e : Event). Older (e ∷ recordsAt w at i) (recordsAt w at c)) is-sent (first-older w at (suc i) c (omega arith)) in
+      let few : suc s ≤ sends (recordsAt w at c) = sends-older o in (
         rw (lt-ltb 0 k (omega arith), le-leb k (sends (recordsAt w at c)) (omega arith)),
-        u ∙ r .1 ∙ carried-next w at i x k refl refl refl (rw (is .0, eq-eqb k (s + 1) d) refl) ∙ sym (carried-older o k le),
-        destination-next w at i x y k refl refl (rw (is .0, eq-eqb k (s + 1) d) refl) ∙ sym (destination-older o k le),
+        u ∙ r .1 ∙ sym (carried-at o rank),
+        sym (of-send-at (λ g q. q) o rank),
       )
 
   pub send-passed : (eqb kind 3 && eqb b k) ≡ false → sends (recordsAt w at (i + 1)) < k

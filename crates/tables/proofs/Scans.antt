@@ -9,10 +9,10 @@ use native.Mathlib.Decide.{decLt}
 use lib.Dec.{eqb, leb}
 use lib.ListN.{length}
 use borrow.Author.Tests.{eqb-true, lt-leb, le-leb}
-use Rattle.rules.specs.Records.{Event, basic, forced, sent, received, History, number, sends, carried, destination, hasReceipt}
+use Rattle.rules.specs.Records.{Event, basic, forced, sent, received, History, number, sends, hasReceipt}
 use Rattle.rules.specs.Table.{width, eventAt, recordsAt}
 use Rattle.rules.specs.Lines.{atLeast, upto}
-use Rattle.basics.proofs.Booleans.{Test, passes, fails, test, either, both}
+use Rattle.basics.proofs.Booleans.{Test, passes, fails, test, either}
 use Rattle.tables.proofs.Laid.{sends-length}
 use Rattle.tables.proofs.WellLaid.{records-length}
 use Rattle.basics.proofs.Older.{Older, older-length}
@@ -57,21 +57,6 @@ module _ (h : History) (w : ℕ → ℕ) (i : ℕ) where
   sends-event : sends (eventAt w i ∷ h) ≡ cond (eqb (w i) 3) (sends h + 1) (sends h)
   sends-event = rw (add-one (sends h)) (event (λ e. sends (e ∷ h)) w i refl ∙ second-only (w i) (suc (sends h)) (sends h))
 
-  -- what is asked of send k, where a send gives x and what was before it d
-  send-event : (f : History → ℕ) (k x : ℕ) → f (eventAt w i ∷ h) ≡ cond (eqb (w i) 4) (f h) (cond (eqb (w i) 3) (cond (eqb k (suc (sends h))) x (f h)) (f h))
-      → f (eventAt w i ∷ h) ≡ cond (eqb (w i) 3 && eqb k (sends h + 1)) x (f h)
-  send-event f k x e =
-      rw (add-one (sends h))
-      (e
-      ∙ second-only (w i) (cond (eqb k (suc (sends h))) x (f h)) (f h)
-      ∙ both (eqb (w i) 3) (eqb k (suc (sends h))) x (f h))
-
-  carried-event : (k : ℕ) → carried (eventAt w i ∷ h) k ≡ cond (eqb (w i) 3 && eqb k (sends h + 1)) (number h) (carried h k)
-  carried-event k = send-event (λ g. carried g k) k (number h) (event (λ e. carried (e ∷ h) k) w i refl)
-
-  destination-event : (k : ℕ) → destination (eventAt w i ∷ h) k ≡ cond (eqb (w i) 3 && eqb k (sends h + 1)) (w (i + 1)) (destination h k)
-  destination-event k = send-event (λ g. destination g k) k (w (i + 1)) (event (λ e. destination (e ∷ h) k) w i refl)
-
   receipt-event : (q k : ℕ) → hasReceipt (eventAt w i ∷ h) q k ≡ (hasReceipt h q k || (eqb (w i) 4 && eqb (w (i + 1)) q && eqb (w (i + 2)) k))
   receipt-event q k =
       event (λ e. hasReceipt (e ∷ h) q k) w i refl ∙ go (eqb (w i) 4) (eqb (w i) 3) (eqb (w (i + 1)) q) (eqb (w (i + 2)) k) (hasReceipt h q k)
@@ -115,17 +100,9 @@ module _ (w : ℕ → ℕ) (at i : ℕ) where
       pub number-next : {m r : ℕ} → m ≡ number past → r ≡ cond (eqb kind 4 || eqb kind 3) m a → r ≡ number (recordsAt w at (i + 1))
       number-next e r = r ∙ rw (e, x, y, add-one i) (sym (number-event past w here))
 
-      pub destination-next : (k : ℕ) {s d r : ℕ} → s ≡ sends past → d ≡ destination past k → r ≡ cond (eqb kind 3 && eqb k (s + 1)) a d
-          → r ≡ destination (recordsAt w at (i + 1)) k
-      destination-next k e f r = r ∙ rw (e, f, x, y, add-one i) (sym (destination-event past w here k))
-
       pub receipt-next : (q k : ℕ) {b : ℕ} → b ≡ w (here + 2) → {f : Bool} → f ≡ hasReceipt past q k
           → (f || (eqb kind 4 && eqb a q && eqb b k)) ≡ hasReceipt (recordsAt w at (i + 1)) q k
       receipt-next q k z e = rw (e, x, y, z, add-one i) (sym (receipt-event past w here q k))
-
-    pub carried-next : (k : ℕ) {m s c r : ℕ} → m ≡ number past → s ≡ sends past → c ≡ carried past k
-        → r ≡ cond (eqb kind 3 && eqb k (s + 1)) m c → r ≡ carried (recordsAt w at (i + 1)) k
-    carried-next k e f g r = r ∙ rw (e, f, g, x, add-one i) (sym (carried-event past w here k))
 
 -- no section has more sends than records
 pub sends-at-most : (w : ℕ → ℕ) (at i : ℕ) → sends (recordsAt w at i) ≤ i
