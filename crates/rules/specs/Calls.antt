@@ -6,9 +6,9 @@ use lib.Dec.{leb, ltb, eqb}
 use lib.ListN.{length}
 use lib.Count.{ones}
 use Rattle.xdr.specs.Words.{word, words, putWords}
-use Rattle.rules.specs.Records.{History, State, history, number, sends, carried, hasSend, hasReceipt}
+use Rattle.rules.specs.Records.{History, State, history, number, sends, carried, sendPlace, hasSend, hasReceipt}
 use Rattle.rules.specs.Table.{inRange, size, layout, fresh, decoded, wellLaid}
-use Rattle.rules.specs.Steps.{Call, checkpoint, send, receipt, nextNumber, forces, carries, stepped}
+use Rattle.rules.specs.Steps.{Call, checkpoint, send, receipt, nextNumber, forces, carries, grown, stepped}
 use Rattle.rules.specs.Lines.{numberedLine, backMask}
 use Rattle.rules.specs.FailureLine.{failureLine}
 
@@ -18,15 +18,16 @@ use Rattle.rules.specs.FailureLine.{failureLine}
 abbrev pub areaLength : Call → ℕ
 areaLength checkpoint = 4
 areaLength (send q) = 8
-areaLength (receipt q k) = 8
+areaLength (receipt q k) = 16
 
--- its words: the new number; send number and carried number; carried number, then 1 if forced and 0 if not
+-- its words: the new number; send number and carried number; carried number, 1 if forced and 0 if not, place of the send among q's
+-- records and of the receipt among p's, of which it is the last then, both counted from 1
 abbrev pub answer : State → ℕ → Call → List ℕ
 answer s p checkpoint = nextNumber (history s p) ∷ []
 answer s p (send q) = suc (sends (history s p)) ∷ number (history s p) ∷ []
 answer s p (receipt q k) =
     let c = carried (history s q) k in
-    c ∷ cond (forces (history s p) c) 1 0 ∷ []
+    c ∷ cond (forces (history s p) c) 1 0 ∷ sendPlace (history s q) k ∷ length (grown (history s p) (receipt q k) c) ∷ []
 
 -- a failure line's words: positions, the mask of the processes that go back, the count of ones in that mask
 unfoldable pub failureAnswer : ℕ → State → List ℕ

@@ -3,7 +3,7 @@ use mathlib.Core.Bool.{Bool, false, cond, _&&_, _||_}
 use mathlib.Core.List.{List, [], _∷_}
 use Prim.Native.Nat.{ℕ, suc}
 use lib.Dec.{leb, ltb, eqb}
-use lib.ListN.{getD}
+use lib.ListN.{length, getD}
 
 -- A record of kind 1, 2, 3 or 4. What follows from the records before it isn't kept: a send's number, which is its place among the sends
 -- of its process, and the number that it carries. A receipt keeps the carried number that was written with it.
@@ -55,6 +55,10 @@ carried h k = ofSend (λ before q. number before) h k
 -- the destination of the k-th send
 abbrev pub destination : History → ℕ → ℕ
 destination h k = ofSend (λ before q. q) h k
+
+-- the place of the k-th send among its sender's records, counted from 1
+abbrev pub sendPlace : History → ℕ → ℕ
+sendPlace h k = ofSend (λ before q. suc (length before)) h k
 
 -- the k-th send is there, with p as its destination
 abbrev pub hasSend : History → ℕ → ℕ → Bool

@@ -96,24 +96,24 @@ cases =
     ∷ case (failedOn worked (area 5) 2) (0 ∷ 2 ∷ 2 ∷ 1 ∷ 6 ∷ 2 ∷ [])
     ∷ case (failedOn worked (area 5) 4) (0 ∷ 2 ∷ 4 ∷ 1 ∷ 4 ∷ 1 ∷ [])
     ∷ case (failedOn worked (area 5) 8) (11 ∷ [])
-    ∷ case (stepOn worked (area 2) 2 (receipt 1 1)) (8 ∷ [])
-    ∷ case (stepOn worked (area 2) 1 (receipt 0 2)) (7 ∷ [])
+    ∷ case (stepOn worked (area 4) 2 (receipt 1 1)) (8 ∷ [])
+    ∷ case (stepOn worked (area 4) 1 (receipt 0 2)) (7 ∷ [])
     ∷ []
 
 pub worked-cases : AsStated cases
 unfolding freshOn stepOn lineOn failedOn layout decoded wellLaid word putWord putWords failureAnswer failureLine rounds round ones onesIn
 worked-cases = as-stated cases refl
 
--- the worked calls' answers
+-- the worked calls' answers; document 02, slip 4: "the worked controller's receipts add 2, 3, then 4, 2, then 1, 3"
 abbrev workedAnswers : List (List ℕ)
 workedAnswers =
     (0 ∷ 1 ∷ [])
     ∷ (0 ∷ 1 ∷ 1 ∷ [])
     ∷ (0 ∷ 1 ∷ 0 ∷ [])
-    ∷ (0 ∷ 1 ∷ 1 ∷ [])
+    ∷ (0 ∷ 1 ∷ 1 ∷ 2 ∷ 3 ∷ [])
     ∷ (0 ∷ 2 ∷ 1 ∷ [])
-    ∷ (0 ∷ 1 ∷ 1 ∷ [])
-    ∷ (0 ∷ 0 ∷ 0 ∷ [])
+    ∷ (0 ∷ 1 ∷ 1 ∷ 4 ∷ 2 ∷ [])
+    ∷ (0 ∷ 0 ∷ 0 ∷ 1 ∷ 3 ∷ [])
     ∷ []
 
 pub worked-answers : map told (outcomesOn (freshTable 3 6) workedCalls) ≡ workedAnswers
@@ -139,7 +139,7 @@ just-saved = as-stated savedCases refl
 
 -- Receipts that carry the receiver's own number force nothing: 0 carries 1 to 1, which has a checkpoint of its own numbered 1.
 pub equal-number : map told (outcomesOn (freshTable 2 4) (exact 0 checkpoint ∷ exact 1 checkpoint ∷ exact 0 (send 1) ∷ exact 1 (receipt 0 1) ∷ []))
-    ≡ (0 ∷ 1 ∷ []) ∷ (0 ∷ 1 ∷ []) ∷ (0 ∷ 1 ∷ 1 ∷ []) ∷ (0 ∷ 1 ∷ 0 ∷ []) ∷ []
+    ≡ (0 ∷ 1 ∷ []) ∷ (0 ∷ 1 ∷ []) ∷ (0 ∷ 1 ∷ 1 ∷ []) ∷ (0 ∷ 1 ∷ 0 ∷ 2 ∷ 2 ∷ []) ∷ []
 unfolding freshOn stepOn layout decoded wellLaid word putWord putWords
 equal-number = refl
 
@@ -197,3 +197,18 @@ word-cases = as-stated wordCases refl
 pub old-length : freshOn (replicate 128 0) 2 4 .returned ≡ 2
 unfolding freshOn layout
 old-length = refl
+
+-- ---- Document 02, slip 4: "Check 4 uses 16 for receipts"
+
+-- P9 with areas of 8 bytes, as document 01 had it, of 12, 16 and 20
+abbrev areaCases : List Case
+areaCases =
+    case (stepOn worked (area 2) 2 (receipt 1 1)) (4 ∷ [])
+    ∷ case (stepOn worked (area 3) 2 (receipt 1 1)) (4 ∷ [])
+    ∷ case (stepOn worked (area 4) 2 (receipt 1 1)) (8 ∷ [])
+    ∷ case (stepOn worked (area 5) 2 (receipt 1 1)) (4 ∷ [])
+    ∷ []
+
+pub area-cases : AsStated areaCases
+unfolding stepOn layout decoded wellLaid word putWord putWords
+area-cases = as-stated areaCases refl

@@ -104,7 +104,8 @@ impl Call {
         match self {
             Call::Fresh { .. } => 0,
             Call::Checkpoint { .. } | Call::Resend => 4,
-            Call::Send { .. } | Call::Receipt { .. } => 8,
+            Call::Send { .. } => 8,
+            Call::Receipt { .. } => 16,
             Call::Line { .. } => 4 * n as usize,
             Call::Failed { .. } => 4 * n as usize + 8,
         }

@@ -425,7 +425,7 @@ fn wrong_lengths_and_dimensions() -> Vec<Script> {
 /// Rows from the answer area on, each with later rows met as well.
 fn rows_of_steps() -> Vec<Script> {
     let mut areas = Script::words(&good());
-    for length in [0, 3, 4, 5, 7, 8, 9, 12, 16, 17] {
+    for length in [0, 3, 4, 5, 7, 8, 9, 12, 15, 16, 17] {
         areas = each(areas, length);
     }
     let mut steps = vec![Call::Checkpoint { p: 0 }, Call::Send { p: 0, q: 1 }];
@@ -461,6 +461,27 @@ fn small_cases() -> Vec<Script> {
 fn falling_numbers(order: [u32; 3]) -> Script {
     let falling = vec![checkpoint(5), send(1, 1, 5), checkpoint(2), send(1, 2, 2), forced(0), send(1, 3, 0)];
     Script::records(6, &[falling, vec![]]).with(&order.map(|k| Call::Receipt { p: 1, q: 0, k }))
+}
+
+/// Document 02, slip 4. n = 3, E = 8: sends of process 0 to both others, with every kind of record between them, and
+/// receipts behind records that were there: of its last send first, which forces, of one to process 2, and of the rest.
+fn places() -> Script {
+    let sender = vec![
+        send(1, 1, 0),
+        receipt(1, 1, 0),
+        send(2, 2, 0),
+        checkpoint(1),
+        send(1, 3, 1),
+        forced(3),
+        receipt(2, 1, 0),
+        send(1, 4, 3),
+    ];
+    let order = [(1, 4), (2, 2), (1, 1), (1, 3), (2, 3)];
+    let script = Script::records(8, &[sender, vec![send(0, 1, 0), checkpoint(1)], vec![]]);
+    let script = script.with(&order.map(|(p, k)| Call::Receipt { p, q: 0, k }));
+    let answers: Vec<&[u32]> = script.steps.iter().map(|step| &step.answer[..]).collect();
+    assert_eq!(answers, [&[3, 1, 8, 4][..], &[0, 0, 3, 1], &[0, 0, 1, 5], &[1, 0, 5, 6], &[]]);
+    script
 }
 
 /// n = 3, E = 6: a number that is forced onto one process after another, overtaken by an older message.
@@ -585,6 +606,8 @@ fn rules() -> String {
     let forced = "Receipts that force and receipts that don't: carried numbers that fall, received in three orders, and a chain of forced ones.";
     let orders = [[1, 2, 3], [3, 2, 1], [2, 1, 3]].map(falling_numbers);
     file.group("forced", forced, orders.into_iter().chain([forced_chain()]).collect());
+    let places_of = "Receipts of sends that stand between records of every kind, with the places of both.";
+    file.group("places", places_of, vec![places()]);
     file.group("fall", "A failure line that falls to the start, a checkpoint a round.", vec![fall()]);
     let (mut made, mut unmade) = (Vec::new(), Vec::new());
     for (i, &(n, e)) in RUNS.iter().enumerate() {
