@@ -1,11 +1,12 @@
 -- The rows of a step on a table, as far as the functions of this crate check them one after the other.
+use mathlib.Core.Path.{_≡_}
 use mathlib.Core.Bool.{not, cond, _||_}
 use mathlib.Core.List.{List, [], _∷_, _++_}
 use Prim.Native.Nat.{ℕ, _+_, _*_, _≤_}
 use lib.Dec.{eqb, leb, ltb}
 use lib.ListN.{length}
 use Rattle.xdr.specs.Words.{word}
-use Rattle.rules.specs.Records.{History, carried, hasSend, hasReceipt}
+use Rattle.rules.specs.Records.{History, carried, sendPlace, hasSend, hasReceipt}
 use Rattle.rules.specs.Table.{heading, width, mostWords, sectionOf, decoded}
 use Rattle.rules.specs.Steps.{Call}
 use Rattle.rules.specs.Calls.{Row, row, first, tableRows, stepRows}
@@ -29,6 +30,10 @@ receiptRows e c x h g p q k =
 -- the same on a table, where the sections of p and q start at the words `at` and `from`
 abbrev pub receiptRowsAt : List ℕ → ℕ → ℕ → ℕ → ℕ → ℕ → ℕ → List Row
 receiptRowsAt t e at from p q k = receiptRows e (word t at) (word t (at + 1)) (sectionOf (word t) at) (sectionOf (word t) from) p q k
+
+-- what is read of send k among the records g: the number that it carries and its place
+abbrev pub Reads : History → ℕ → ℕ → ℕ → Type 0
+Reads g k m i = (m ≡ carried g k) × (i ≡ sendPlace g k)
 
 -- the section that starts at word `at` lies in the table, and has at most e used records
 abbrev pub SectionIn : List ℕ → ℕ → ℕ → Type 0

@@ -99,8 +99,13 @@ nothing f (sent q ∷ h) k a = rw (ne-eqb k (suc (sends h)) (other a)) (nothing 
     before (inl e) = inl e
     before (inr l) = inr (omega arith)
 
-pub send-none : (h : History) (k : ℕ) → Absent h k → {f : Bool} {m d : ℕ} → (f ≡ false) × (m ≡ 0) × (d ≡ 0) → Answers k h f m d
-send-none h k a r = (r .0 ∙ go a, r .1 ∙ sym (nothing (λ g q. number g) h k a), r .2 ∙ sym (nothing (λ g q. q) h k a))
+pub send-none : (h : History) (k : ℕ) → Absent h k → {f : Bool} {m d i : ℕ} → (f ≡ false) × (m ≡ 0) × (d ≡ 0) × (i ≡ 0) → Answers k h f m d i
+send-none h k a r = (
+  r .0 ∙ go a,
+  r .1 ∙ sym (nothing (λ g q. number g) h k a),
+  r .2 ∙ sym (nothing (λ g q. q) h k a),
+  r .3 ∙ sym (nothing (λ g q. suc (length g)) h k a),
+)
   where
     go : Absent h k → false ≡ (ltb 0 k && leb k (sends h))
     go (inl e) = rw e
@@ -136,7 +141,7 @@ module _ (w : ℕ → ℕ) (at i k : ℕ) {kind b c : ℕ} (x : kind ≡ w (at +
   told p = let r = laid i l (sym x ∙ eqb-true kind 3 p) in (z ∙ r .0, r .1)
 
   pub send-found : {a m : ℕ} → a ≡ w (at + width * i + 1) → m ≡ w (at + width * i + 3) → (eqb kind 3 && eqb b k) ≡ true
-      → Answers k (recordsAt w at c) true m a
+      → Answers k (recordsAt w at c) true m a (i + 1)
   send-found {a} y u t =
       let is = and-eq-true-iff (eqb kind 3) (eqb b k) .0 t in
       let r = told (is .0) in
@@ -147,6 +152,7 @@ module _ (w : ℕ → ℕ) (at i k : ℕ) {kind b c : ℕ} (x : kind ≡ w (at +
         rw (lt-ltb 0 k (omega arith), le-leb k (sends (recordsAt w at c)) (omega arith)),
         u ∙ r .1 ∙ sym (carried-at o rank),
         sym (of-send-at (λ g q. q) o rank),
+        add-one i ∙ sym (of-send-at (λ g q. suc (length g)) o rank ∙ ap suc (records-length w at i)),
       )
 
   pub send-passed : (eqb kind 3 && eqb b k) ≡ false → sends (recordsAt w at (i + 1)) < k

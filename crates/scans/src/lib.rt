@@ -10,21 +10,23 @@ ghost use Rattle.rules.specs.Lines.{numbered};
 ghost use Rattle.tables.specs.Sections.{SendsLaid};
 ghost use Rattle.scans.specs.Sends.{Answers};
 
-// Whether send k is there, the number that it carries and its destination: 0 and 0 where it is not.
+// Whether send k is there, the number that it carries, its destination and its place, counted from 1: all 0 where it is not.
 pub struct Sent {
     pub found: bool,
     pub carried: u32,
     pub to: u32,
+    pub place: u32,
 }
 
 // The answer where send k isn't there.
 fn missing() -> Sent
-    ensures { λ r. ⌜ (r .found ≡ false) × (r .carried ≡ 0) × (r .to ≡ 0) ⌝ }
+    ensures { λ r. ⌜ (r .found ≡ false) × (r .carried ≡ 0) × (r .to ≡ 0) × (r .place ≡ 0) ⌝ }
 {
     Sent {
         found: false,
         carried: 0,
         to: 0,
+        place: 0,
     }
 }
 
@@ -32,7 +34,7 @@ fn missing() -> Sent
 // first k - 1 records have less than k sends, so the search begins behind them.
 pub fn find_send(t: &[u8], at: usize, c: usize, k: usize) -> Sent
     requires { ⌜ (c ≤ 1024) × (4 * (at + width * c) ≤ length (now t)) × SendsLaid (word (now t)) at c ⌝ }
-    ensures { λ r. ⌜ Answers k (recordsAt (word (now (t .entry))) at c) (r .found) (r .carried) (r .to) ⌝ }
+    ensures { λ r. ⌜ Answers k (recordsAt (word (now (t .entry))) at c) (r .found) (r .carried) (r .to) (r .place) ⌝ }
 {
     if (k == 0) | (c < k) {
         return missing();
@@ -41,10 +43,12 @@ pub fn find_send(t: &[u8], at: usize, c: usize, k: usize) -> Sent
     while i < c {
         let w = at + shape::WIDTH * i;
         if (xdr::get_usize(t, w) == 3) & (xdr::get_usize(t, w + shape::B) == k) {
+            let place = i as u32 + 1;
             return Sent {
                 found: true,
                 carried: xdr::get(t, w + shape::CARRIED),
                 to: xdr::get(t, w + shape::A),
+                place,
             };
         }
         i += 1;

@@ -2,7 +2,7 @@
 use mathlib.Core.Path.{_≡_, refl, sym, ap, _∙_}
 use mathlib.Core.Logic.{_≢_}
 use mathlib.Core.Bool.{Bool, true, false, cond}
-use mathlib.Core.List.{List, [], _∷_}
+use mathlib.Core.List.{List, [], _∷_, _++_}
 use Prim.Native.Nat.{ℕ, suc, _+_, _*_, _≤_}
 use native.Mathlib.Nat.{add-comm}
 use native.Mathlib.Numerals.{add-one}
@@ -14,13 +14,13 @@ use Rattle.xdr.proofs.Words.{Bytes}
 use Rattle.xdr.proofs.Puts.{one-put}
 use Rattle.rules.specs.Records.{Event, basic, forced, sent, received, History, history, number, sends, carried}
 use Rattle.rules.specs.Table.{heading, width, recordWords, layout, start, decoded}
-use Rattle.rules.specs.Steps.{Call, checkpoint, send, receipt, carries, added, stepped}
+use Rattle.rules.specs.Steps.{Call, checkpoint, send, receipt, carries, added, grown, stepped}
 use Rattle.rules.specs.Calls.{outcome, areaLength, needed, answer, stepOn}
 use Rattle.records.proofs.Rows.{judged-stop, judged-done}
 use Rattle.tables.proofs.Stores.{stored}
 use Rattle.tables.proofs.OneCall.{step-stores}
 use Rattle.tables.proofs.Outcomes.{Head, head, Passed, passed}
-use Rattle.rows.specs.Rows.{stepRow}
+use Rattle.rows.specs.Rows.{Reads, stepRow}
 use Rattle.store.specs.Added.{withRecord, withForced, withReceipt}
 
 -- a refused step
@@ -113,13 +113,29 @@ module _ (t a : List ℕ) (bt : Bytes t) (p : ℕ) {E at x s : ℕ} (i : E ≡ w
       accepted t a bt p (send q) e z ((s + 1) ∷ x ∷ []) (rw (n, f, H .current))
       (v ∙ one-stored t p h (sent q) at-start (H .count) (f ∙ H .current) n (rw (n, f, H .current))) w
 
-pub receipt-done : (t a : List ℕ) → Bytes t → (p q k : ℕ) {r E at m y : ℕ} {u b : List ℕ} → E ≡ word t 1 → at ≡ start E p
-    → r ≡ stepRow t p (receipt q k) (length a) → r ≡ 0 → m ≡ carried (history (decoded t) q) k
+-- the place of a receipt that carries m: behind the c records of h, and behind a forced checkpoint where y is 1
+receipt-place : (h : History) (q k m : ℕ) {c y : ℕ} → c ≡ length h → y ≡ cond (ltb (number h) m) 1 0 → c + 1 + y ≡ length (grown h (receipt q k) m)
+receipt-place h q k m i j = rw (i, j) (go (ltb (number h) m))
+  where
+    go : (b : Bool) → length h + 1 + cond b 1 0 ≡ suc (length (cond b (forced m ∷ []) [] ++ h))
+    go true = omega arith
+    go false = omega arith
+
+pub one-most : (b : Bool) {y : ℕ} → y ≡ cond b 1 0 → y ≤ 1
+one-most true e = omega arith
+one-most false e = omega arith
+
+pub receipt-done : (t a : List ℕ) → Bytes t → (p q k : ℕ) {r E at m i c y : ℕ} {u b : List ℕ} → E ≡ word t 1 → at ≡ start E p
+    → r ≡ stepRow t p (receipt q k) (length a) → r ≡ 0 → Reads (history (decoded t) q) k m i
+    → c ≡ word t at
     → y ≡ cond (ltb (word t (at + 1)) m) 1 0
     → u ≡ withReceipt t at m q k
-    → b ≡ putWords a 0 (m ∷ y ∷ []) → outcome 0 u b ≡ stepOn t a p (receipt q k)
-receipt-done t a bt p q k {E} {at} {m} {y} i j e z c n v w =
-    let H = ready t a bt p (receipt q k) e z i j .own in
+    → b ≡ putWords a 0 (m ∷ y ∷ i ∷ (c + 1 + y) ∷ []) → outcome 0 u b ≡ stepOn t a p (receipt q k)
+receipt-done t a bt p q k {m} {i} {c} {y} f j e z R l n v w =
+    let H = ready t a bt p (receipt q k) e z f j .own in
     let h = history (decoded t) p in
-    accepted t a bt p (receipt q k) e z (m ∷ y ∷ []) (rw (n, H .current, c))
-    (v ∙ receipt-stored t p h m q k (rw (← i) j) (H .count) (H .current) (H .sent) ∙ rw c) w
+    let g = history (decoded t) q in
+    let is-forced : y ≡ cond (ltb (number h) (carried g k)) 1 0 = n ∙ rw (H .current, R .0) refl in
+    let place = receipt-place h q k (carried g k) (l ∙ H .count) is-forced in
+    accepted t a bt p (receipt q k) e z (m ∷ y ∷ i ∷ (c + 1 + y) ∷ []) (rw (place, is-forced, R .0, R .1))
+    (v ∙ receipt-stored t p h m q k (rw (← f) j) (H .count) (H .current) (H .sent) ∙ rw (R .0)) w

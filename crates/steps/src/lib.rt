@@ -42,8 +42,12 @@ pub fn receipt(table: &mut [u8], area: &mut [u8], p: u32, q: u32, k: u32) -> u32
         return row;
     }
     let carried = m.carried;
+    let sent_at = m.place;
     let at = shape::start(xdr::get_usize(table, 1), p as usize);
+    let c = xdr::get(table, at);
     let forced = store::add_receipt(table, at, carried, q, k);
-    store::answer(area, carried, forced);
+    // the receipt's record is the last one, behind a forced checkpoint
+    let received_at = c + 1 + forced;
+    store::put_four(area, 0, carried, forced, sent_at, received_at);
     0
 }

@@ -1,4 +1,4 @@
-// Records added to a section in place, and answers of two words.
+// Records added to a section in place, and answers of two and of four words.
 ghost use mathlib.Core.Path.{_≡_};
 ghost use mathlib.Core.Bool.{cond};
 ghost use mathlib.Core.List.{[], _∷_};
@@ -8,13 +8,13 @@ ghost use Rattle.xdr.specs.Words.{word, putWords};
 ghost use Rattle.rules.specs.Table.{heading, width, mostWords};
 ghost use Rattle.store.specs.Added.{withRecord, withForced, forcesAt, withReceipt};
 
-// The words of a record that starts at word i.
-fn put_record(t: &mut [u8], i: usize, kind: u32, a: u32, b: u32, c: u32)
-    requires { ⌜ 4 * (i + width) ≤ length (now t) ⌝ }
-    ensures { λ _. ⌜ now (t .exit) ≡ putWords (now (t .entry)) i (kind ∷ a ∷ b ∷ c ∷ []) ⌝ }
+// Four words from word i on: those of a record, or of a receipt's answer.
+pub fn put_four(s: &mut [u8], i: usize, x: u32, y: u32, z: u32, v: u32)
+    requires { ⌜ 4 * i + 16 ≤ length (now s) ⌝ }
+    ensures { λ _. ⌜ now (s .exit) ≡ putWords (now (s .entry)) i (x ∷ y ∷ z ∷ v ∷ []) ⌝ }
 {
-    xdr::put_three(t, i, kind, a, b);
-    xdr::put(t, i + shape::CARRIED, c);
+    xdr::put_three(s, i, x, y, z);
+    xdr::put(s, i + 3, v);
 }
 
 // One record; x and s are the section's number and count of sends after it, and m is what it carries.
@@ -24,7 +24,7 @@ pub fn add_record(t: &mut [u8], at: usize, x: u32, s: u32, kind: u32, a: u32, b:
 {
     let c = xdr::get(t, at);
     xdr::put_three(t, at, c + 1, x, s);
-    put_record(
+    put_four(
         t,
         at + shape::HEADING + shape::WIDTH * (c as usize),
         kind,
@@ -42,8 +42,8 @@ fn add_forced(t: &mut [u8], at: usize, s: u32, m: u32, q: u32, k: u32)
     let c = xdr::get(t, at);
     let w = at + shape::HEADING + shape::WIDTH * (c as usize);
     xdr::put_three(t, at, c + 2, m, s);
-    put_record(t, w, 2, m, 0, 0);
-    put_record(t, w + shape::WIDTH, 4, q, k, m);
+    put_four(t, w, 2, m, 0, 0);
+    put_four(t, w + shape::WIDTH, 4, q, k, m);
 }
 
 // The receipt of (q, k), which carries m; returns 1 if it forces a checkpoint, else 0.

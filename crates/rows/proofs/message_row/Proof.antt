@@ -100,7 +100,7 @@ returns-4 c =
     let f = c8 .find-send .ensures in (
       message-none (a .t .now) (a .e) (a .at) (a .from) (a .p) (a .q) (a .k) i j (f .0) (f .1) (f .2) (c5 .if1 .left)
           (c4 .has-receipt .ensures) (c3 .if2 .left) (c .before .before .get .ensures) (c .before .needed .ensures .0) (c .if3 .left),
-      λ z. rw (← j) (f .1),
+      λ z. rw (← j) (f .1, f .3),
     )
 
 pub message-row-spec : {M : Type 1} → statement M

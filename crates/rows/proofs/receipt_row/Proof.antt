@@ -22,7 +22,7 @@ get-usize-requires : tie.Need-get-usize-requires
 get-usize-requires c κs =
     let c3 = c .before .before .before in
     let a = c3 .args in
-    let w = pairs (a .t .now) (λ i. omega (arith, c .before .before .shared-slice-known .given i)) (a .len) 8 (a .p) (a .q)
+    let w = pairs (a .t .now) (λ i. omega (arith, c .before .before .shared-slice-known .given i)) (a .len) _ (a .p) (a .q)
     (c .before .pair-row .ensures) (c .if1 .left) in
     omega (arith, w .acting .table .is .whole)
 
@@ -31,7 +31,7 @@ start-requires c κs =
     let c3 = c .before .before .before in
     let c4 = c3 .before in
     let a = c4 .args in
-    let w = pairs (a .t .now) (λ i. omega (arith, c3 .shared-slice-known .given i)) (a .len) 8 (a .p) (a .q)
+    let w = pairs (a .t .now) (λ i. omega (arith, c3 .shared-slice-known .given i)) (a .len) _ (a .p) (a .q)
     (c .before .before .pair-row .ensures) (c .before .if1 .left) in
     omega (arith, w .acting .below, w .acting .table .range .processes, w .acting .table .range .records)
 
@@ -41,7 +41,7 @@ start-requires-2 c κs =
     let c4 = c3 .before in
     let c5 = c4 .before in
     let a = c5 .args in
-    let w = pairs (a .t .now) (λ i. omega (arith, c4 .shared-slice-known .given i)) (a .len) 8 (a .p) (a .q) (c3 .pair-row .ensures)
+    let w = pairs (a .t .now) (λ i. omega (arith, c4 .shared-slice-known .given i)) (a .len) _ (a .p) (a .q) (c3 .pair-row .ensures)
     (c .before .before .if1 .left) in
     omega (arith, w .below, w .acting .table .range .processes, w .acting .table .range .records)
 
@@ -52,7 +52,7 @@ message-row-requires c κs =
     let c5 = c4 .before in
     let c6 = c5 .before in
     let a = c6 .args in
-    let w = pairs (a .t .now) (λ i. omega (arith, c5 .shared-slice-known .given i)) (a .len) 8 (a .p) (a .q) (c4 .pair-row .ensures)
+    let w = pairs (a .t .now) (λ i. omega (arith, c5 .shared-slice-known .given i)) (a .len) _ (a .p) (a .q) (c4 .pair-row .ensures)
     (c3 .if1 .left) in
     let h = head (a .t .now) (w .acting .table) (a .p) (w .acting .below) (c .before .before .get-usize .ensures .0)
     (c .before .start .ensures .0) in
@@ -67,15 +67,14 @@ returns-2 c =
     let c6 = c5 .before in
     let c7 = c6 .before in
     let a = c7 .args in
-    let w = pairs (a .t .now) (λ i. omega (arith, c6 .shared-slice-known .given i)) (a .len) 8 (a .p) (a .q) (c5 .pair-row .ensures)
+    let w = pairs (a .t .now) (λ i. omega (arith, c6 .shared-slice-known .given i)) (a .len) _ (a .p) (a .q) (c5 .pair-row .ensures)
     (c4 .if1 .left) in
     let h = head (a .t .now) (w .acting .table) (a .p) (w .acting .below) (c3 .get-usize .ensures .0)
     (c .before .before .start .ensures .0) in
     let g = head (a .t .now) (w .acting .table) (a .q) (w .below) (c3 .get-usize .ensures .0) (c .before .start2 .ensures .0) in (
       receipt-going (a .t .now) (a .p) (a .q) (a .k) (a .len) (c5 .pair-row .ensures) (c4 .if1 .left) (c3 .get-usize .ensures .0)
           (h .count) (h .current) (h .events) (g .events) (c .message-row .ensures .0),
-      λ z. c .message-row .ensures .1 z ∙ rw
-          (g .events),
+      λ z. rw (← g .events) (c .message-row .ensures .1 z),
     )
 
 pub receipt-row-spec : {M : Type 1} → statement M

@@ -51,6 +51,12 @@ add-get-usize c = search needs
 get-usize-requires-2 : tie.Need-get-usize-requires-2 Inv-loop μ-loop
 get-usize-requires-2 c κs = search needs
 
+cast-place : tie.Need-cast-place Inv-loop μ-loop
+cast-place c = search needs
+
+add-place : tie.Need-add-place Inv-loop μ-loop
+add-place c = search needs
+
 add-get : tie.Need-add-get Inv-loop μ-loop
 add-get c = search needs
 
@@ -116,6 +122,8 @@ find-send-spec =
     get-usize-requires
     add-get-usize
     get-usize-requires-2
+    cast-place
+    add-place
     add-get
     get-requires
     add-get-2

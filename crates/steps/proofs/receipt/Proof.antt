@@ -1,7 +1,8 @@
 use native.Mathlib.Omega.{arith}
 use borrow.Author.Needs.{needs}
 use Rattle.rules.specs.Steps.{receipt}
-use Rattle.steps.proofs.Done.{refused, clear, ready, receipt-room, receipt-done}
+use Rattle.store.specs.Added.{forcesAt}
+use Rattle.steps.proofs.Done.{refused, clear, ready, receipt-room, one-most, receipt-done}
 use Rattle.steps.proofs.receipt.Statement.{statement}
 use Rattle.steps.proofs.receipt.Tie as tie
 
@@ -39,8 +40,8 @@ start-requires c κs =
     (c3 .receipt-row .ensures .0) (c .before .before .if1 .left) in
     omega (arith, P .accepted .within, P .table .range .processes, P .table .range .records)
 
-add-receipt-requires : tie.Need-add-receipt-requires
-add-receipt-requires c κs =
+get-requires : tie.Need-get-requires
+get-requires c κs =
     let c4 = c .before .before .before .before in
     let c5 = c4 .before in
     let c8 = c5 .before .before .before in
@@ -48,26 +49,72 @@ add-receipt-requires c κs =
     let a = c9 .args in
     let t = a .table .now in
     let R = ready t (a .area .now) (λ i. omega (arith, c8 .slice-known .given i)) (a .p) (receipt (a .q) (a .k))
-    (c5 .receipt-row .ensures .0) (c4 .if1 .left) (c .before .before .get-usize .ensures .0) (c .before .start .ensures .0) in (
+    (c5 .receipt-row .ensures .0) (c4 .if1 .left) (c .before .before .get-usize .ensures .0) (c .before .start .ensures .0) in
+    omega (arith, R .own .inside)
+
+add-receipt-requires : tie.Need-add-receipt-requires
+add-receipt-requires c κs =
+    let c3 = c .before .before .before in
+    let c4 = c3 .before in
+    let c6 = c4 .before .before in
+    let c7 = c6 .before in
+    let c10 = c7 .before .before .before in
+    let c11 = c10 .before in
+    let a = c11 .args in
+    let t = a .table .now in
+    let R = ready t (a .area .now) (λ i. omega (arith, c10 .slice-known .given i)) (a .p) (receipt (a .q) (a .k))
+    (c7 .receipt-row .ensures .0) (c6 .if1 .left) (c4 .get-usize .ensures .0) (c3 .start .ensures .0) in (
       R .own .near,
       omega (arith, R .own .short, R .own .most),
       receipt-room t (a .area .now) (a .p) (a .q) (a .k)
-          (c .before .before .get-usize .result) (c .before .start .result) (c5 .receipt-row .result .carried) R
-          (c5 .receipt-row .ensures .1 (c4 .if1 .left)),
+          (c4 .get-usize .result) (c3 .start .result) (c7 .receipt-row .result .carried) R
+          (c7 .receipt-row .ensures .1 (c6 .if1 .left) .0),
     )
 
-answer-requires : tie.Need-answer-requires
-answer-requires c κs =
-    let c5 = c .before .before .before .before .before in
-    let c6 = c5 .before in
-    let c8 = c6 .before .before in
-    let c9 = c8 .before in
-    let c12 = c9 .before .before .before in
-    let c13 = c12 .before in
-    let a = c13 .args in
+add-received-at : tie.Need-add-received-at
+add-received-at c =
+    let c4 = c .before .before .before .before in
+    let c6 = c4 .before .before in
+    let c7 = c6 .before in
+    let c9 = c7 .before .before in
+    let c10 = c9 .before in
+    let c13 = c10 .before .before .before in
+    let c14 = c13 .before in
+    let a = c14 .args in
     let t = a .table .now in
-    let R = ready t (a .area .now) (λ i. omega (arith, c12 .slice-known .given i)) (a .p) (receipt (a .q) (a .k))
-    (c9 .receipt-row .ensures .0) (c8 .if1 .left) (c6 .get-usize .ensures .0) (c5 .start .ensures .0) in
+    let R = ready t (a .area .now) (λ i. omega (arith, c13 .slice-known .given i)) (a .p) (receipt (a .q) (a .k))
+    (c10 .receipt-row .ensures .0) (c9 .if1 .left) (c7 .get-usize .ensures .0) (c6 .start .ensures .0) in
+    rw (c4 .get .ensures) (omega (arith, R .own .short, R .own .most))
+
+add-received-at-2 : tie.Need-add-received-at-2
+add-received-at-2 c =
+    let c2 = c .before .before in
+    let c4 = c2 .before .before in
+    let c6 = c4 .before .before in
+    let c7 = c6 .before in
+    let c9 = c7 .before .before in
+    let c10 = c9 .before in
+    let c13 = c10 .before .before .before in
+    let c14 = c13 .before in
+    let a = c14 .args in
+    let t = a .table .now in
+    let R = ready t (a .area .now) (λ i. omega (arith, c13 .slice-known .given i)) (a .p) (receipt (a .q) (a .k))
+    (c10 .receipt-row .ensures .0) (c9 .if1 .left) (c7 .get-usize .ensures .0) (c6 .start .ensures .0) in
+    let y = one-most (forcesAt t (c6 .start .result) (c10 .receipt-row .result .carried)) (c2 .add-receipt .ensures .0) in
+    rw (c4 .get .ensures) (omega (arith, R .own .short, R .own .most, y))
+
+put-four-requires : tie.Need-put-four-requires
+put-four-requires c κs =
+    let c7 = c .before .before .before .before .before .before .before in
+    let c8 = c7 .before in
+    let c10 = c8 .before .before in
+    let c11 = c10 .before in
+    let c14 = c11 .before .before .before in
+    let c15 = c14 .before in
+    let a = c15 .args in
+    let t = a .table .now in
+    let R = ready t (a .area .now) (λ i. omega (arith, c14 .slice-known .given i)) (a .p) (receipt (a .q) (a .k))
+    (c11 .receipt-row .ensures .0) (c10 .if1 .left) (c8 .get-usize .ensures .0) (c7 .start .ensures .0) in
     omega (arith, R .area)
 
 same-length-2 : tie.Need-same-length-2
@@ -80,18 +127,18 @@ returns-2 : tie.Need-returns-2
 returns-2 c =
     let c6 = c .before .before .before .before .before .before in
     let c8 = c6 .before .before in
-    let c9 = c8 .before in
-    let c11 = c9 .before .before in
-    let c12 = c11 .before in
-    let c14 = c12 .before .before in
-    let c15 = c14 .before in
-    let c16 = c15 .before in
-    let a = c16 .args in
+    let c10 = c8 .before .before in
+    let c11 = c10 .before in
+    let c13 = c11 .before .before in
+    let c14 = c13 .before in
+    let c17 = c14 .before .before .before in
+    let c18 = c17 .before in
+    let a = c18 .args in
     let t = a .table .now in
-    receipt-done t (a .area .now) (λ i. omega (arith, c15 .slice-known .given i))
-    (a .p) (a .q) (a .k) (c9 .get-usize .ensures .0) (c8 .start .ensures .0) (c12 .receipt-row .ensures .0) (c11 .if1 .left)
-    (c12 .receipt-row .ensures .1 (c11 .if1 .left)) (c6 .add-receipt .ensures .0) (c6 .add-receipt .ensures .1)
-    (c .before .before .answer .ensures)
+    receipt-done t (a .area .now) (λ i. omega (arith, c17 .slice-known .given i))
+    (a .p) (a .q) (a .k) (c11 .get-usize .ensures .0) (c10 .start .ensures .0) (c14 .receipt-row .ensures .0) (c13 .if1 .left)
+    (c14 .receipt-row .ensures .1 (c13 .if1 .left)) (c8 .get .ensures) (c6 .add-receipt .ensures .0) (c6 .add-receipt .ensures .1)
+    (c .before .before .put-four .ensures)
 
 pub receipt-spec : {M : Type 1} → statement M
 receipt-spec =
@@ -102,8 +149,11 @@ receipt-spec =
     returns
     get-usize-requires
     start-requires
+    get-requires
     add-receipt-requires
-    answer-requires
+    add-received-at
+    add-received-at-2
+    put-four-requires
     same-length-2
     same-length-3
     returns-2)

@@ -24,14 +24,14 @@ add-put-three c = search needs
 put-three-requires : tie.Need-put-three-requires
 put-three-requires c κs = search needs
 
-put-record-requires : tie.Need-put-record-requires
-put-record-requires c κs = search needs
+put-four-requires : tie.Need-put-four-requires
+put-four-requires c κs = search needs
 
-add-put-record : tie.Need-add-put-record
-add-put-record c = search needs
+add-put-four : tie.Need-add-put-four
+add-put-four c = search needs
 
-put-record-requires-2 : tie.Need-put-record-requires-2
-put-record-requires-2 c κs = search needs
+put-four-requires-2 : tie.Need-put-four-requires-2
+put-four-requires-2 c κs = search needs
 
 same-length : tie.Need-same-length
 same-length c = search needs
@@ -44,7 +44,7 @@ returns c =
     let c15 = c12 .before .before .before in
     let a = c15 .args in
     forced-put (a .t .now) (a .at) (a .s) (c12 .get .ensures) (a .m) (a .q) (a .k) (c10 .put-three .ensures)
-    (c6 .put-record .ensures) (c .before .before .put-record2 .ensures)
+    (c6 .put-four .ensures) (c .before .before .put-four2 .ensures)
 
 pub add-forced-spec : {M : Type 1} → statement M
 add-forced-spec =
@@ -57,8 +57,8 @@ add-forced-spec =
     add-w-2
     add-put-three
     put-three-requires
-    put-record-requires
-    add-put-record
-    put-record-requires-2
+    put-four-requires
+    add-put-four
+    put-four-requires-2
     same-length
     returns)

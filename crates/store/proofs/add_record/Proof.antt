@@ -12,20 +12,20 @@ add-put-three c = search needs
 put-three-requires : tie.Need-put-three-requires
 put-three-requires c κs = search needs
 
-add-put-record : tie.Need-add-put-record
-add-put-record c = search needs
+add-put-four : tie.Need-add-put-four
+add-put-four c = search needs
 
-cast-put-record : tie.Need-cast-put-record
-cast-put-record c = search needs
+cast-put-four : tie.Need-cast-put-four
+cast-put-four c = search needs
 
-mul-put-record : tie.Need-mul-put-record
-mul-put-record c = search needs
+mul-put-four : tie.Need-mul-put-four
+mul-put-four c = search needs
 
-add-put-record-2 : tie.Need-add-put-record-2
-add-put-record-2 c = search needs
+add-put-four-2 : tie.Need-add-put-four-2
+add-put-four-2 c = search needs
 
-put-record-requires : tie.Need-put-record-requires
-put-record-requires c κs = search needs
+put-four-requires : tie.Need-put-four-requires
+put-four-requires c κs = search needs
 
 same-length : tie.Need-same-length
 same-length c = search needs
@@ -37,7 +37,7 @@ returns c =
     let c11 = c8 .before .before .before in
     let a = c11 .args in
     record-put (a .t .now) (a .at) (a .s) (c8 .get .ensures) (a .x) (a .kind) (a .a) (a .b) (a .m) (c6 .put-three .ensures)
-    (c .before .before .put-record .ensures)
+    (c .before .before .put-four .ensures)
 
 pub add-record-spec : {M : Type 1} → statement M
 add-record-spec =
@@ -46,10 +46,10 @@ add-record-spec =
     get-requires
     add-put-three
     put-three-requires
-    add-put-record
-    cast-put-record
-    mul-put-record
-    add-put-record-2
-    put-record-requires
+    add-put-four
+    cast-put-four
+    mul-put-four
+    add-put-four-2
+    put-four-requires
     same-length
     returns)

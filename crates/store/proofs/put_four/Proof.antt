@@ -1,7 +1,7 @@
 use borrow.Author.Needs.{needs}
 use Rattle.store.proofs.Puts.{words-put}
-use Rattle.store.proofs.put_record.Statement.{statement}
-use Rattle.store.proofs.put_record.Tie as tie
+use Rattle.store.proofs.put_four.Statement.{statement}
+use Rattle.store.proofs.put_four.Tie as tie
 
 put-three-requires : tie.Need-put-three-requires
 put-three-requires c κs = search needs
@@ -19,9 +19,9 @@ returns : tie.Need-returns
 returns c =
     let c6 = c .before .before .before .before .before .before in
     let a = c6 .before .before .before .args in
-    words-put (a .t .now) (a .i) (a .kind) (a .a) (a .b) (a .c) (c6 .put-three .ensures) (c .before .before .put .ensures)
+    words-put (a .s .now) (a .i) (a .x) (a .y) (a .z) (a .v) (c6 .put-three .ensures) (c .before .before .put .ensures)
 
-pub put-record-spec : {M : Type 1} → statement M
-put-record-spec =
+pub put-four-spec : {M : Type 1} → statement M
+put-four-spec =
     tie.close
     (tie.spec put-three-requires add-put put-requires same-length returns)
