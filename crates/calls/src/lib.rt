@@ -20,8 +20,8 @@ pub fn run(call: Call, n: usize, table: &mut [u8], area: &mut [u8]) -> answers::
         ),
         Call::Send { p, q } => answers::told(engine::ckpt_send(table, &mut area[..8], p, q), 2),
         Call::Receipt { p, q, k } => answers::told(
-            engine::ckpt_receipt(table, &mut area[..8], p, q, k),
-            2,
+            engine::ckpt_receipt(table, &mut area[..16], p, q, k),
+            4,
         ),
         Call::Line { number } => {
             let bytes = 4 * n;

@@ -99,15 +99,31 @@ fn message_row(t: &[u8], e: usize, at: usize, from: usize, p: usize, q: usize, k
     let carried = m.carried;
     let place = m.place;
     if !(m.found & ((m.to as usize) == p)) {
-        return Message { row: 7, carried, place };
+        return Message {
+            row: 7,
+            carried,
+            place,
+        };
     }
     if scans::has_receipt(t, at + shape::HEADING, c, q, k) {
-        return Message { row: 8, carried, place };
+        return Message {
+            row: 8,
+            carried,
+            place,
+        };
     }
     if e < c + needed(xdr::get(t, at + shape::NUMBER) < carried) {
-        return Message { row: 9, carried, place };
+        return Message {
+            row: 9,
+            carried,
+            place,
+        };
     }
-    Message { row: 0, carried, place }
+    Message {
+        row: 0,
+        carried,
+        place,
+    }
 }
 
 pub fn receipt_row(t: &[u8], len: usize, p: usize, q: usize, k: usize) -> Message
@@ -115,7 +131,11 @@ pub fn receipt_row(t: &[u8], len: usize, p: usize, q: usize, k: usize) -> Messag
 {
     let row = pair_row(t, len, 16, p, q);
     if row != 0 {
-        return Message { row, carried: 0, place: 0 };
+        return Message {
+            row,
+            carried: 0,
+            place: 0,
+        };
     }
     let e = xdr::get_usize(t, 1);
     message_row(t, e, shape::start(e, p), shape::start(e, q), p, q, k)

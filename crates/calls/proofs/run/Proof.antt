@@ -61,7 +61,7 @@ slice-aggregate-ckpt-receipt : tie.Need-slice-aggregate-ckpt-receipt
 slice-aggregate-ckpt-receipt c =
     let c7 = c .before .before .before .before .before .before .before in
     let a = c7 .args in
-    sym (length-take-le 8 (a .area .now) (omega (arith, area-length (a .area .now) (c7 .pre .1))))
+    sym (length-take-le 16 (a .area .now) (omega (arith, area-length (a .area .now) (c7 .pre .1))))
 
 ckpt-receipt-requires : tie.Need-ckpt-receipt-requires
 ckpt-receipt-requires c κs = search needs
@@ -180,7 +180,7 @@ returns-4 c =
     let a = c13 .args in
     shows-called
     (λ l. stepOn (a .table .now) l (c9 .call3 .given .0 .0) (receipt (c9 .call3 .given .0 .1 .0) (c9 .call3 .given .0 .1 .1 .0)))
-    _ 2 8 _ _ (a .area .now) _ (c5 .ckpt-receipt .ensures) (c13 .pre .1) (ran-as (a .n) (a .table .now) (c9 .call3 .given .1))
+    _ 4 16 _ _ (a .area .now) _ (c5 .ckpt-receipt .ensures) (c13 .pre .1) (ran-as (a .n) (a .table .now) (c9 .call3 .given .1))
     (c .told4 .ensures) (c .before .before .area3 .given .0) refl (omega arith)
 
 same-length-7 : tie.Need-same-length-7
