@@ -1,7 +1,7 @@
 -- What an accepted call has met, how a history grows by it, and how a property of states goes through a list.
-use mathlib.Core.Path.{_≡_, refl, sym, subst}
+use mathlib.Core.Path.{_≡_, refl, sym, subst, _∙_}
 use mathlib.Core.Logic.{_≢_}
-use mathlib.Core.Bool.{Bool, true, false, cond, _||_}
+use mathlib.Core.Bool.{Bool, true, false, not, cond, _||_}
 use mathlib.Core.List.{List, [], _∷_, _++_}
 use Prim.Native.Nat.{ℕ, zero, suc, _+_, _≤_, _<_}
 use native.Mathlib.Omega.{arith}
@@ -13,12 +13,12 @@ use borrow.Author.Tests.{ltb-false, leb-false, eqb-true, eqb-false, not-false}
 use Rattle.rules.specs.Records.{forced, History, State, history, hasSend, hasReceipt}
 use Rattle.rules.specs.Table.{fresh}
 use Rattle.rules.specs.Steps.{Call, checkpoint, send, receipt, forces, carries, grown, stepped}
-use Rattle.rules.specs.Calls.{first, stepRows, needed}
+use Rattle.rules.specs.Calls.{areaLength, first, callRows, stepRows, needed}
 use Rattle.rules.specs.Lists.{Entry, entry, check, accepts, after, run}
 use Rattle.basics.proofs.Older.{Older, same, newer}
 use Rattle.basics.proofs.Booleans.{Test, passes, fails, test, or-false}
 use Rattle.records.proofs.Histories.{holds-held, carried-older}
-use Rattle.records.proofs.Rows.{none-met}
+use Rattle.records.proofs.Rows.{none-met, first-unmet}
 
 -- ---- rows
 
@@ -53,6 +53,11 @@ accepted-met n E s p (receipt q k) len e =
       message = (o .0, o .1, not-false (hasSend (history s q) p k) (m .1 .1 .1 .0), m .1 .1 .1 .1 .0);
       free = ltb-false _ _ (m .1 .1 .1 .1 .1 .0);
     }
+
+pub area-met : (n E : ℕ) (s : State) (p : ℕ) (call : Call) (len : ℕ) → first (stepRows n E s p call len) ≡ 0 → len ≡ areaLength call
+area-met n E s p call len e =
+    eqb-true len (areaLength call)
+    (not-false (eqb len (areaLength call)) (first-unmet 3 (not (eqb len (areaLength call))) (callRows n E s p call) e))
 
 pub accepts-met : (n E : ℕ) (s : State) (p : ℕ) (call : Call) (area : List ℕ) → accepts n E s (entry p call area) ≡ true → Accepted n E s p call
 unfolding check
@@ -119,6 +124,14 @@ grown-length h (send q) c = omega arith
 grown-length h (receipt q k) c = go (forces h c)
   where
     go : (b : Bool) → suc (length ((cond b (forced c ∷ []) [] ++ h))) ≡ length h + cond b 2 1
+    go true = omega arith
+    go false = omega arith
+
+-- a receipt's record is the last one then, behind a forced checkpoint where it forces
+pub receipt-place : (h : History) (q k c : ℕ) → length (grown h (receipt q k) c) ≡ length h + 1 + cond (forces h c) 1 0
+receipt-place h q k c = grown-length h (receipt q k) c ∙ go (forces h c)
+  where
+    go : (b : Bool) → length h + cond b 2 1 ≡ length h + 1 + cond b 1 0
     go true = omega arith
     go false = omega arith
 

@@ -2,7 +2,7 @@
 use mathlib.Core.Path.{_≡_, refl, sym, ap, _∙_}
 use mathlib.Core.Logic.{_≢_}
 use mathlib.Core.Bool.{Bool, true, false, cond}
-use mathlib.Core.List.{List, [], _∷_, _++_}
+use mathlib.Core.List.{List, [], _∷_}
 use Prim.Native.Nat.{ℕ, suc, _+_, _*_, _≤_}
 use native.Mathlib.Nat.{add-comm}
 use native.Mathlib.Numerals.{add-one}
@@ -17,6 +17,7 @@ use Rattle.rules.specs.Table.{heading, width, recordWords, layout, start, decod
 use Rattle.rules.specs.Steps.{Call, checkpoint, send, receipt, carries, added, grown, stepped}
 use Rattle.rules.specs.Calls.{outcome, areaLength, needed, answer, stepOn}
 use Rattle.records.proofs.Rows.{judged-stop, judged-done}
+use Rattle.records.proofs.Steps.{receipt-place}
 use Rattle.tables.proofs.Stores.{stored}
 use Rattle.tables.proofs.OneCall.{step-stores}
 use Rattle.tables.proofs.Outcomes.{Head, head, Passed, passed}
@@ -113,14 +114,6 @@ module _ (t a : List ℕ) (bt : Bytes t) (p : ℕ) {E at x s : ℕ} (i : E ≡ w
       accepted t a bt p (send q) e z ((s + 1) ∷ x ∷ []) (rw (n, f, H .current))
       (v ∙ one-stored t p h (sent q) at-start (H .count) (f ∙ H .current) n (rw (n, f, H .current))) w
 
--- the place of a receipt that carries m: behind the c records of h, and behind a forced checkpoint where y is 1
-receipt-place : (h : History) (q k m : ℕ) {c y : ℕ} → c ≡ length h → y ≡ cond (ltb (number h) m) 1 0 → c + 1 + y ≡ length (grown h (receipt q k) m)
-receipt-place h q k m i j = rw (i, j) (go (ltb (number h) m))
-  where
-    go : (b : Bool) → length h + 1 + cond b 1 0 ≡ suc (length (cond b (forced m ∷ []) [] ++ h))
-    go true = omega arith
-    go false = omega arith
-
 pub one-most : (b : Bool) {y : ℕ} → y ≡ cond b 1 0 → y ≤ 1
 one-most true e = omega arith
 one-most false e = omega arith
@@ -136,6 +129,8 @@ receipt-done t a bt p q k {m} {i} {c} {y} f j e z R l n v w =
     let h = history (decoded t) p in
     let g = history (decoded t) q in
     let is-forced : y ≡ cond (ltb (number h) (carried g k)) 1 0 = n ∙ rw (H .current, R .0) refl in
-    let place = receipt-place h q k (carried g k) (l ∙ H .count) is-forced in
+    let place : c + 1 + y ≡ length (grown h (receipt q k) (carried g k)) =
+    rw (receipt-place h q k (carried g k), l, H .count, is-forced)
+    in
     accepted t a bt p (receipt q k) e z (m ∷ y ∷ i ∷ (c + 1 + y) ∷ []) (rw (place, is-forced, R .0, R .1))
     (v ∙ receipt-stored t p h m q k (rw (← f) j) (H .count) (H .current) (H .sent) ∙ rw (R .0)) w

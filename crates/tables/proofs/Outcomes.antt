@@ -15,16 +15,12 @@ use Rattle.rules.specs.Table.{heading, width, mostWords, inRange, sectionWords,
 use Rattle.rules.specs.Steps.{Call}
 use Rattle.rules.specs.Calls.{areaLength, row, first, tableRows, laterRows, stepRows}
 use Rattle.records.proofs.Rows.{none-met, split-zero, first-unmet}
-use Rattle.records.proofs.Steps.{Accepted, accepted-met}
+use Rattle.records.proofs.Steps.{Accepted, accepted-met, area-met}
 use Rattle.tables.specs.Sections.{SendsLaid}
 use Rattle.tables.proofs.Laid.{legal-number, sends-length}
 use Rattle.tables.proofs.Ranges.{product, in-range}
 use Rattle.tables.proofs.WellLaid.{sections-each, section-of, decoded-at, decoded-words, decoded-short}
 use Rattle.tables.proofs.OneCall.{Valid, valid, table-legal, legal-carried}
-
--- ---- outcomes
-
--- ---- rows
 
 -- ---- a table that meets none of its own rows
 
@@ -118,6 +114,5 @@ passed t b p call len e =
     record {
       table = valid t b (z .0);
       accepted = accepted-met n E s p call len (z .1);
-      area = eqb-true len (areaLength call) (not-false (eqb len (areaLength call))
-          (first-unmet 3 (not (eqb len (areaLength call))) (row 5 (leb n p) ∷ laterRows n E s p call) (z .1)));
+      area = area-met n E s p call len (z .1);
     }

@@ -2,3 +2,4 @@ pub mod TwoLists
 pub mod Latest
 pub mod SentAgain
 pub mod BilledOnce
+pub mod Places
