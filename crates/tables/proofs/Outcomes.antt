@@ -1,20 +1,18 @@
 -- What a call may take from the rows that it has passed, and an outcome from its parts.
 use mathlib.Core.Path.{_≡_, sym, ap, _∙_}
-use mathlib.Core.Bool.{not}
-use mathlib.Core.List.{List, _∷_, _++_}
+use mathlib.Core.List.{List, _++_}
 use Prim.Native.Nat.{ℕ, _+_, _*_, _≤_, _<_}
 use native.Mathlib.Nat.{le-trans, mul-le-mul, mul-le-mul-right}
 use native.Mathlib.Omega.{arith}
-use lib.Dec.{eqb, leb}
 use lib.ListN.{length, getD}
-use borrow.Author.Tests.{ltb-false, eqb-true, not-false}
+use borrow.Author.Tests.{ltb-false, not-false}
 use Rattle.xdr.specs.Words.{word}
 use Rattle.xdr.proofs.Words.{Bytes}
 use Rattle.rules.specs.Records.{History, history, number, sends, carried}
 use Rattle.rules.specs.Table.{heading, width, mostWords, inRange, sectionWords, start, recordsAt, decoded}
 use Rattle.rules.specs.Steps.{Call}
-use Rattle.rules.specs.Calls.{areaLength, row, first, tableRows, laterRows, stepRows}
-use Rattle.records.proofs.Rows.{none-met, split-zero, first-unmet}
+use Rattle.rules.specs.Calls.{areaLength, first, tableRows, stepRows}
+use Rattle.records.proofs.Rows.{none-met, split-zero}
 use Rattle.records.proofs.Steps.{Accepted, accepted-met, area-met}
 use Rattle.tables.specs.Sections.{SendsLaid}
 use Rattle.tables.proofs.Laid.{legal-number, sends-length}

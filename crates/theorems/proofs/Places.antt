@@ -3,25 +3,25 @@ use mathlib.Core.Path.{_≡_, refl, sym, ap, _∙_}
 use mathlib.Core.Bool.{Bool, true, false, cond}
 use mathlib.Core.List.{List, [], _∷_, _++_}
 use mathlib.Core.Option.{some, Option·none-ne-some, Option·some-injective}
-use Prim.Native.Nat.{ℕ, suc, _+_, _<_}
+use Prim.Native.Nat.{ℕ, suc, _<_}
 use native.Mathlib.Omega.{arith}
 use lib.Dec.{ltb, eqb}
 use lib.ListN.{length}
 use borrow.Author.Tests.{eqb-true, eq-eqb, ne-eqb}
 use Rattle.xdr.specs.Words.{word}
 use Rattle.xdr.proofs.Puts.{whole-put}
-use Rattle.rules.specs.Records.{Event, sent, received, forced, History, history, number, sends, carried, sendPlace}
+use Rattle.rules.specs.Records.{Event, sent, forced, History, history, number, sends, carried, sendPlace}
 use Rattle.rules.specs.Table.{layout, decoded}
 use Rattle.rules.specs.Steps.{receipt, grown, stepped}
 use Rattle.rules.specs.Lines.{upto}
 use Rattle.rules.specs.Calls.{first, tableRows, stepRows, answer, stepOn}
-use Rattle.theorems.specs.Places.{recordAt, SendAt, Received, Places}
+use Rattle.theorems.specs.Places.{recordAt, SendAt, Places}
 use Rattle.basics.proofs.Booleans.{Test, passes, fails, test}
 use Rattle.basics.proofs.Older.{Older, same, newer, older-length}
-use Rattle.records.proofs.Histories.{of-send-at, carried-at, Held, holds-held, SendOf, send-of}
+use Rattle.records.proofs.Histories.{of-send-at, carried-at, Held, holds-held, send-of}
 use Rattle.records.proofs.NumberedLines.{upto-older}
 use Rattle.records.proofs.Rows.{split-zero, judged-returned, judged-done}
-use Rattle.records.proofs.Steps.{Accepted, accepted-met, area-met, history-same, history-other, receipt-place}
+use Rattle.records.proofs.Steps.{accepted-met, area-met, history-same, history-other, receipt-place}
 use Rattle.tables.proofs.WellLaid.{decoded-count}
 
 -- ---- a record and its place

@@ -3,3 +3,4 @@ pub mod Latest
 pub mod SentAgain
 pub mod BilledOnce
 pub mod Places
+pub mod Fields
