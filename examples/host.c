@@ -35,14 +35,14 @@ static struct state running[N];
 /* What the host keeps on disk, beside the meters: the table, and for it every state saved and every message. */
 static uint8_t table[CKPT_TABLE_LENGTH(N, E)];
 static struct state saved[N][E + 1]; /* by the position at which it was saved, 0 for the state that the table began from */
-static uint32_t position[N];         /* how many records a process has */
+static uint32_t position[N];         /* how many records a process has: the place of the last one */
 static uint32_t last_save[N];        /* the position of its last save */
 static struct message sent[N][E + 1]; /* by sender and send number */
 static uint32_t sends[N];
 static uint32_t owed[N]; /* how many a process sent again when the table began: its first records are these sends */
 
 static bool ignore_lines;
-static struct { unsigned long saves, forced, received, overtaking, again, back, full; } seen;
+static struct { unsigned long saves, forced, received, overtaking, again, back, full, farthest; } seen;
 
 /* A number below the bound; the same seed gives the same run everywhere. */
 static uint64_t seed = 1;
@@ -147,15 +147,23 @@ static bool post(uint32_t from, uint32_t to, uint32_t flat, uint32_t pulses) {
     return true;
 }
 
+/* How far a message travelled: the distance between the place of its send and that of its receipt. */
+static void travelled(uint32_t from, uint32_t to) {
+    uint32_t places = from < to ? to - from : from - to;
+    if (places > seen.farthest) seen.farthest = places;
+}
+
 static void receive(struct message *m) {
     uint8_t area[CKPT_RECEIPT_LENGTH];
     if (!accepted(ckpt_receipt(table, sizeof table, area, sizeof area, m->to, m->from, m->number))) return;
+    uint32_t sent_at = ckpt_word(area, 2), received_at = ckpt_word(area, 3);
     if (ckpt_word(area, 1)) { /* forced: the state is saved before the message is taken */
-        position[m->to]++;
+        position[m->to] = received_at - 1;
         save(m->to);
         seen.forced++;
     }
-    position[m->to]++;
+    position[m->to] = received_at;
+    travelled(sent_at, received_at);
     m->received = true;
     running[m->to].pulses[m->flat] += m->pulses;
     seen.received++;
@@ -264,8 +272,9 @@ int main(int argc, char **argv) {
         }
         if (restarts % 100 == 0) {
             printf("%4d restarts: saves %lu and forced %lu, received %lu, overtaking %lu, sent again %lu, went back %lu, "
-                   "tables full %lu\n",
-                   restarts, seen.saves, seen.forced, seen.received, seen.overtaking, seen.again, seen.back, seen.full);
+                   "tables full %lu, travelled %lu places at most\n",
+                   restarts, seen.saves, seen.forced, seen.received, seen.overtaking, seen.again, seen.back, seen.full,
+                   seen.farthest);
         }
     }
     puts("ledgers equal registers");

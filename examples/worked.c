@@ -1,5 +1,5 @@
-/* The worked controller of document 01: runs its calls, prints each with what it answers, and exits with 1 where an answer is
-   not the document's. */
+/* The worked controller of document 01, with the places that document 02 adds to its receipts: runs its calls, prints each with what
+   it answers, and exits with 1 where an answer is not the documents'. */
 #include <stdarg.h>
 #include <stdio.h>
 #include <string.h>
@@ -12,7 +12,7 @@ static uint8_t table[CKPT_TABLE_LENGTH(N, E)];
 static uint8_t area[CKPT_FAILED_LENGTH(N)];
 static int wrong;
 
-/* Prints the number returned and the answer's words, and compares them with document 01's. */
+/* Prints the number returned and the answer's words, and compares them with the documents'. */
 static void told(const char *call, uint32_t returned, uint32_t stated, int words, ...) {
     va_list said;
     int same = returned == stated;
@@ -24,7 +24,7 @@ static void told(const char *call, uint32_t returned, uint32_t stated, int words
         same &= answer == (uint32_t)va_arg(said, int);
     }
     va_end(said);
-    puts(same ? "" : "   <- not document 01's");
+    puts(same ? "" : "   <- not the documents'");
     wrong |= !same;
 }
 
@@ -36,10 +36,10 @@ int main(void) {
     told("checkpoint 0", ckpt_checkpoint(LENT, CKPT_CHECKPOINT_LENGTH, 0), CKPT_OK, 1, 1);
     told("send 0 to 1", ckpt_send(LENT, CKPT_SEND_LENGTH, 0, 1), CKPT_OK, 2, 1, 1);
     told("send 1 to 2", ckpt_send(LENT, CKPT_SEND_LENGTH, 1, 2), CKPT_OK, 2, 1, 0);
-    told("receipt at 1 of (0, 1)", ckpt_receipt(LENT, CKPT_RECEIPT_LENGTH, 1, 0, 1), CKPT_OK, 2, 1, 1);
+    told("receipt at 1 of (0, 1)", ckpt_receipt(LENT, CKPT_RECEIPT_LENGTH, 1, 0, 1), CKPT_OK, 4, 1, 1, 2, 3);
     told("send 1 to 2", ckpt_send(LENT, CKPT_SEND_LENGTH, 1, 2), CKPT_OK, 2, 2, 1);
-    told("receipt at 2 of (1, 2)", ckpt_receipt(LENT, CKPT_RECEIPT_LENGTH, 2, 1, 2), CKPT_OK, 2, 1, 1);
-    told("receipt at 2 of (1, 1)", ckpt_receipt(LENT, CKPT_RECEIPT_LENGTH, 2, 1, 1), CKPT_OK, 2, 0, 0);
+    told("receipt at 2 of (1, 2)", ckpt_receipt(LENT, CKPT_RECEIPT_LENGTH, 2, 1, 2), CKPT_OK, 4, 1, 1, 4, 2);
+    told("receipt at 2 of (1, 1)", ckpt_receipt(LENT, CKPT_RECEIPT_LENGTH, 2, 1, 1), CKPT_OK, 4, 0, 0, 1, 3);
     told("line 0", ckpt_line(LENT, CKPT_LINE_LENGTH(N), 0), CKPT_OK, 3, 0, 0, 0);
     told("line 1", ckpt_line(LENT, CKPT_LINE_LENGTH(N), 1), CKPT_OK, 3, 1, 2, 1);
     told("line 2", ckpt_line(LENT, CKPT_LINE_LENGTH(N), 2), CKPT_OK, 3, 2, 4, 3);

@@ -27,10 +27,10 @@
 extern "C" {
 #endif
 
-/* The version, as one number to compare (0.2.0 is 200) and as text. A record has four words since 0.2.0; a table that an earlier
-   version stored is refused by its length. */
+/* The version, as one number to compare (0.3.0 is 300) and as text. A record has four words since 0.2.0; a table that an earlier
+   version stored is refused by its length. A receipt answers four words since 0.3.0; a shorter area is refused. */
 #define CKPT_VERSION_MAJOR 0
-#define CKPT_VERSION_MINOR 2
+#define CKPT_VERSION_MINOR 3
 #define CKPT_VERSION_PATCH 0
 #define CKPT_VERSION (CKPT_VERSION_MAJOR * 10000 + CKPT_VERSION_MINOR * 100 + CKPT_VERSION_PATCH)
 #define CKPT_VERSION_STRING CKPT_TEXT(CKPT_VERSION_MAJOR) "." CKPT_TEXT(CKPT_VERSION_MINOR) "." CKPT_TEXT(CKPT_VERSION_PATCH)
@@ -65,7 +65,7 @@ extern "C" {
 #define CKPT_TABLE_LENGTH(n, e) (8ul + 4ul * (n) * (3ul + CKPT_RECORD_WORDS * (e)))
 #define CKPT_CHECKPOINT_LENGTH 4ul
 #define CKPT_SEND_LENGTH 8ul
-#define CKPT_RECEIPT_LENGTH 8ul
+#define CKPT_RECEIPT_LENGTH 16ul
 #define CKPT_LINE_LENGTH(n) (4ul * (n))
 #define CKPT_FAILED_LENGTH(n) (4ul * (n) + 8ul)
 #define CKPT_RESEND_LENGTH(count) (4ul + 12ul * (count))
@@ -95,7 +95,9 @@ uint32_t ckpt_send(uint8_t *table, size_t table_len, uint8_t *area, size_t area_
 
 /* Process p receives send k of q, in any order, each once. Adds the receipt to the table, and a forced checkpoint before it where
    one is due. The area gets the carried number, then 1 if it forced and 0 if not: after a 1 the host saves the state of p before p
-   takes the message.
+   takes the message. Then it gets the place of the send among q's records and that of the receipt among p's, both counted from 1:
+   how far the message travelled. The receipt is p's last record, so that its place is p's count of records from now on; a forced
+   checkpoint has the place before it.
    Returns CKPT_BAD_TABLE_LENGTH, CKPT_BAD_DIMENSIONS, CKPT_NOT_WELL_LAID, CKPT_BAD_AREA_LENGTH, CKPT_BAD_PROCESS,
    CKPT_BAD_OTHER_PROCESS, CKPT_NOT_SENT, CKPT_ALREADY_RECEIVED, CKPT_NO_RECORDS_LEFT, CKPT_OK. */
 uint32_t ckpt_receipt(uint8_t *table, size_t table_len, uint8_t *area, size_t area_len, uint32_t p, uint32_t q, uint32_t k);

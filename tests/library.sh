@@ -86,7 +86,7 @@ host_restarts() {
     local seed
     host_of examples/host.c "$made/host" -O2 && "$made/host" >"$made/host.out" || return 1
     tail -n 2 "$made/host.out"
-    [ "$(grep -c '^ *[0-9]*00 restarts: ' "$made/host.out")" -eq 10 ] &&
+    [ "$(grep -c '^ *[0-9]*00 restarts: .*, travelled [1-9][0-9]* places at most$' "$made/host.out")" -eq 10 ] &&
         [ "$(tail -n 1 "$made/host.out")" = 'ledgers equal registers' ] || return 1
     for seed in 2 3 4 5 6 7 8 9; do
         "$made/host" "$seed" >"$made/host.out" || {
@@ -139,6 +139,8 @@ wrong_hosts() {
         host_that "asks for what is in transit at the running states" "$cut" 'position[p]' &&
         host_that "reloads the failed alone" 'back = ckpt_word(area, N);' 'back = failed;' &&
         host_that "reloads those below their count alone" 'back >> p & 1' '(back >> p & 1 && at < position[p])' &&
+        host_that "takes a forced checkpoint's place for the receipt's" 'received_at = ckpt_word(area, 3);' \
+            'received_at = ckpt_word(area, 3) - ckpt_word(area, 1);' &&
         host_that "saves a state with the message in it" 'save(m->to);' \
             'running[m->to].pulses[m->flat] += m->pulses; save(m->to); running[m->to].pulses[m->flat] -= m->pulses;'
 }

@@ -13,8 +13,8 @@ seed=1
 origin="fuzz, case [0-9]+, CKPT_SEED=$seed"
 missed=0
 
-# what overrun.c wraps: a call that only reads the table, one that writes it, and one that is lent more than table and area
-calls=(ckpt_line ckpt_send ckpt_resend)
+# what overrun.c wraps: a call that only reads the table, two that write it, and one that is lent more than table and area
+calls=(ckpt_line ckpt_send ckpt_receipt ckpt_resend)
 
 # wrapped WORDS..: makes the fuzzer with overrun.c, compiled with these words, around these calls of the archive
 wrapped() {
@@ -89,6 +89,10 @@ told
 
 engine "a send that carries nothing"
 wrapped -DNOTHING_CARRIED && finds "differ in the table" "$origin" "Send" "proved: +returned 0"
+told
+
+engine "a place counted from 0"
+wrapped -DPLACE_FROM_0 && finds "differ in the area" "$origin" "Receipt" "proved: +returned 0"
 told
 
 engine "a byte behind the list"

@@ -30,7 +30,7 @@ static int listing(void) {
     int same = ckpt_fresh(table, sizeof table, N, E) == CKPT_OK;
     same &= ANSWERS(ckpt_checkpoint(LENT, CKPT_CHECKPOINT_LENGTH, 0), 1);
     same &= ANSWERS(ckpt_send(LENT, CKPT_SEND_LENGTH, 0, 1), 1, 1);
-    same &= ANSWERS(ckpt_receipt(LENT, CKPT_RECEIPT_LENGTH, 1, 0, 1), 1, 1);
+    same &= ANSWERS(ckpt_receipt(LENT, CKPT_RECEIPT_LENGTH, 1, 0, 1), 1, 1, 2, 2);
     same &= ANSWERS(ckpt_line(LENT, CKPT_LINE_LENGTH(N), 1), 1, 1);
     same &= ANSWERS(ckpt_failed(LENT, CKPT_FAILED_LENGTH(N), 1), 1, 1, 3, 2);
     same &= ANSWERS(ckpt_resend(table, sizeof table, positions, sizeof positions, area, CKPT_RESEND_LENGTH(1)), 1, 0, 1, 1);

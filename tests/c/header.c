@@ -13,12 +13,12 @@
 #error "the header's macros can't be used by the preprocessor"
 #endif
 
-#if CKPT_VERSION < 200
-#error "a record has four words since 0.2.0"
+#if CKPT_VERSION < 300
+#error "a receipt answers four words since 0.3.0"
 #endif
 
-/* OLD_LENGTH is that of a table of version 0.1.0. */
-enum { N = 3, E = 2, NO_BYTES = 0, OLD_LENGTH = 8 + 12 * N * (E + 1) };
+/* OLD_LENGTH is that of a table of version 0.1.0, OLD_RECEIPT_LENGTH that of a receipt's area before 0.3.0. */
+enum { N = 3, E = 2, NO_BYTES = 0, OLD_LENGTH = 8 + 12 * N * (E + 1), OLD_RECEIPT_LENGTH = 8 };
 
 static uint8_t table[CKPT_TABLE_LENGTH(N, E)];
 static uint8_t area[CKPT_RESEND_MOST(N, E) + 1];
@@ -107,6 +107,7 @@ static void later_rows(void) {
     SAME(fresh(N, E), CKPT_OK);
     exact(CKPT_BAD_AREA_LENGTH, table, sizeof table, 1);
     exact(CKPT_BAD_AREA_LENGTH, table, sizeof table, (size_t)0 - 1); /* one byte shorter */
+    SAME(ckpt_receipt(LENT, area, OLD_RECEIPT_LENGTH, 1, 0, 1), CKPT_BAD_AREA_LENGTH);
     SAME(checkpoint(N), CKPT_BAD_PROCESS);
     SAME(send(N, 0), CKPT_BAD_PROCESS);
     SAME(receipt(N, 0, 1), CKPT_BAD_PROCESS);
@@ -123,6 +124,8 @@ static void later_rows(void) {
     SAME(receipt(1, 0, 1), CKPT_OK);
     SAME(ckpt_word(area, 0), 1);
     SAME(ckpt_word(area, 1), 1);
+    SAME(ckpt_word(area, 2), 2); /* the send is behind a checkpoint */
+    SAME(ckpt_word(area, 3), 2); /* and the receipt behind a forced one */
     SAME(receipt(1, 0, 1), CKPT_ALREADY_RECEIVED);
     SAME(checkpoint(0), CKPT_NO_RECORDS_LEFT);
     SAME(send(1, 0), CKPT_NO_RECORDS_LEFT);
@@ -214,7 +217,7 @@ static void lengths(void) {
     SAME(CKPT_TABLE_LENGTH(N, E), 4 * section_at(E, N));
     SAME(CKPT_CHECKPOINT_LENGTH, 4);
     SAME(CKPT_SEND_LENGTH, 8);
-    SAME(CKPT_RECEIPT_LENGTH, 8);
+    SAME(CKPT_RECEIPT_LENGTH, 16);
     SAME(CKPT_LINE_LENGTH(n + 1), 36);
     SAME(CKPT_FAILED_LENGTH(n + 1), 44);
     SAME(CKPT_RESEND_LENGTH(0), 4);

@@ -1,14 +1,16 @@
-/* An engine that goes wrong, to see that the fuzzer finds it (tests/overruns.sh): ckpt_line, ckpt_send and ckpt_resend of the
-   archive, wrapped by the linker. -DTOUCH is what they do first, one of the functions below, with the lent block that -DTOUCHED
-   names; without these they do what the archive's do. -DWRONG_NUMBER makes ckpt_send return 5 where 6 is due, -DNOTHING_CARRIED
-   makes it leave 0 as the fourth word of its record, -DBEHIND_LIST makes ckpt_resend write the byte after the last entry, and
-   -DEARLY_COUNT the area's first word though the area is too short. Compiled without a sanitizer, as the archive is. */
+/* An engine that goes wrong, to see that the fuzzer finds it (tests/overruns.sh): ckpt_line, ckpt_send, ckpt_receipt and ckpt_resend
+   of the archive, wrapped by the linker. -DTOUCH is what all but ckpt_receipt do first, one of the functions below, with the lent
+   block that -DTOUCHED names; without these they do what the archive's do. -DWRONG_NUMBER makes ckpt_send return 5 where 6 is due,
+   -DNOTHING_CARRIED makes it leave 0 as the fourth word of its record, -DPLACE_FROM_0 makes ckpt_receipt count the place of the send
+   from 0, -DBEHIND_LIST makes ckpt_resend write the byte after the last entry, and -DEARLY_COUNT the area's first word though the
+   area is too short. Compiled without a sanitizer, as the archive is. */
 #include <string.h>
 
 #include "table.h"
 
 uint32_t __real_ckpt_line(const uint8_t *table, size_t table_len, uint8_t *area, size_t area_len, uint32_t number);
 uint32_t __real_ckpt_send(uint8_t *table, size_t table_len, uint8_t *area, size_t area_len, uint32_t p, uint32_t q);
+uint32_t __real_ckpt_receipt(uint8_t *table, size_t table_len, uint8_t *area, size_t area_len, uint32_t p, uint32_t q, uint32_t k);
 uint32_t __real_ckpt_resend(const uint8_t *table, size_t table_len, const uint8_t *positions, size_t positions_len, uint8_t *area,
                             size_t area_len);
 
@@ -80,6 +82,14 @@ uint32_t __wrap_ckpt_send(uint8_t *table, size_t table_len, uint8_t *area, size_
         size_t e = ckpt_word(table, 1), used = ckpt_word(table, section_at(e, p) + HEADING_COUNT);
         put_word(table, record_at(e, p, used - 1) + RECORD_CARRIED, 0);
     }
+#endif
+    return returned;
+}
+
+uint32_t __wrap_ckpt_receipt(uint8_t *table, size_t table_len, uint8_t *area, size_t area_len, uint32_t p, uint32_t q, uint32_t k) {
+    uint32_t returned = __real_ckpt_receipt(table, table_len, area, area_len, p, q, k);
+#ifdef PLACE_FROM_0
+    if (returned == CKPT_OK) put_word(area, 2, ckpt_word(area, 2) - 1);
 #endif
     return returned;
 }

@@ -632,8 +632,8 @@ table109 = bytes (1 ∷ 4 ∷ 1 ∷ 1 ∷ 0 ∷ 1 ∷ 1 ∷ 0 ∷ 0 ∷ 0 ∷ 0 
 -- A run from fresh: n = 1, E = 4.
 abbrev run1 : List Script
 run1 = script (lent 84) (accepted (fresh 1 4) 0 [] table108 ∷ accepted (step 0 checkpoint) 4 (1 ∷ []) table109 ∷ refused (step 0 (send 0)) 8 6
-    ∷ refused (step 0 (send 0)) 8 6 ∷ refused (step 0 (send 0)) 9 4 ∷ refused (step 0 (send 0)) 8 6 ∷ refused (step 0 (send 0)) 8 6
-    ∷ refused (step 255 checkpoint) 4 5 ∷ refused (step 0 (send 0)) 1 4 ∷ refused (step 0 (send 0)) 8 6 ∷ refused (step 0 (send 0)) 8 6
+    ∷ refused (step 0 (send 0)) 8 6 ∷ refused (step 0 (send 0)) 16 4 ∷ refused (step 0 (send 0)) 8 6 ∷ refused (step 0 (send 0)) 8 6
+    ∷ refused (step 255 checkpoint) 4 5 ∷ refused (step 0 (send 0)) 8 6 ∷ refused (step 0 (send 0)) 8 6 ∷ refused (step 0 (send 0)) 8 6
     ∷ refused (step 0 (send 0)) 8 6 ∷ refused (step 0 (send 0)) 8 6 ∷ accepted (line 0) 4 (0 ∷ []) table109 ∷ accepted (line 1) 4 (1 ∷ []) table109
     ∷ accepted (line 2) 4 (1 ∷ []) table109 ∷ accepted (line 3) 4 (1 ∷ []) table109 ∷ accepted (line 4) 4 (1 ∷ []) table109
     ∷ accepted (line 4294967295) 4 (1 ∷ []) table109 ∷ accepted (failed 0) 12 (1 ∷ 0 ∷ 0 ∷ []) table109 ∷ accepted (failed 1) 12 (1 ∷ 1 ∷ 1 ∷ []) table109
@@ -655,7 +655,7 @@ table112 = bytes (2 ∷ 1 ∷ 1 ∷ 0 ∷ 1 ∷ 3 ∷ 1 ∷ 1 ∷ 0 ∷ 1 ∷ 0 
 -- A run from fresh: n = 2, E = 1.
 abbrev run2 : List Script
 run2 = script (lent 64) (accepted (fresh 2 1) 0 [] table110 ∷ accepted (step 0 (send 1)) 8 (1 ∷ 0 ∷ []) table111
-    ∷ accepted (step 1 (receipt 0 1)) 16 (0 ∷ 0 ∷ 1 ∷ 1 ∷ []) table112 ∷ refused (step 1 (send 0)) 8 9 ∷ refused (step 2147483648 (send 1)) 4 4
+    ∷ accepted (step 1 (receipt 0 1)) 16 (0 ∷ 0 ∷ 1 ∷ 1 ∷ []) table112 ∷ refused (step 1 (send 0)) 8 9 ∷ refused (step 2147483648 (send 1)) 9 4
     ∷ refused (step 0 (send 1)) 8 9 ∷ refused (step 0 (receipt 1 1)) 16 7 ∷ refused (step 1 (send 0)) 8 9 ∷ refused (step 1 (send 0)) 8 9
     ∷ refused (step 1 (send 0)) 8 9 ∷ refused (step 1 checkpoint) 4 9 ∷ accepted (line 0) 8 (0 ∷ 0 ∷ []) table112 ∷ accepted (line 1) 8 (1 ∷ 1 ∷ []) table112
     ∷ accepted (line 2) 8 (1 ∷ 1 ∷ []) table112 ∷ accepted (line 3) 8 (1 ∷ 1 ∷ []) table112 ∷ accepted (line 2) 8 (1 ∷ 1 ∷ []) table112
@@ -739,7 +739,7 @@ table127 = bytes (2 ∷ 4 ∷ 4 ∷ 0 ∷ 4 ∷ 3 ∷ 1 ∷ 1 ∷ 0 ∷ 3 ∷ 1 
 
 -- A run from fresh: n = 2, E = 4.
 abbrev run4 : List Script
-run4 = script (lent 160) (accepted (fresh 2 4) 0 [] table14 ∷ accepted (step 0 (send 1)) 8 (1 ∷ 0 ∷ []) table120 ∷ refused (step 1 (receipt 0 4)) 20 4
+run4 = script (lent 160) (accepted (fresh 2 4) 0 [] table14 ∷ accepted (step 0 (send 1)) 8 (1 ∷ 0 ∷ []) table120 ∷ refused (step 1 (receipt 0 4)) 16 7
     ∷ refused (step 1 (receipt 0 3)) 16 7 ∷ accepted (step 1 (receipt 0 1)) 16 (0 ∷ 0 ∷ 1 ∷ 1 ∷ []) table121
     ∷ accepted (step 0 (send 1)) 8 (2 ∷ 0 ∷ []) table122 ∷ refused (step 1 (send 1)) 8 6 ∷ accepted (step 0 (send 1)) 8 (3 ∷ 0 ∷ []) table123
     ∷ accepted (step 1 (receipt 0 3)) 16 (0 ∷ 0 ∷ 3 ∷ 2 ∷ []) table124 ∷ accepted (step 0 (send 1)) 8 (4 ∷ 0 ∷ []) table125 ∷ refused (step 0 checkpoint) 4 9
@@ -817,7 +817,7 @@ run5 = script (lent 224) (accepted (fresh 2 6) 0 [] table128 ∷ accepted (step 
     ∷ accepted (step 0 (send 1)) 8 (3 ∷ 2 ∷ []) table137 ∷ refused (step 0 (receipt 1 1)) 16 7
     ∷ accepted (step 1 (receipt 0 3)) 16 (2 ∷ 0 ∷ 5 ∷ 5 ∷ []) table138 ∷ refused (step 1 (receipt 0 3)) 16 8
     ∷ accepted (step 1 (send 0)) 8 (1 ∷ 2 ∷ []) table139 ∷ accepted (step 0 (receipt 1 1)) 16 (2 ∷ 0 ∷ 6 ∷ 6 ∷ []) table140 ∷ refused (step 0 (send 1)) 8 9
-    ∷ refused (step 1 (receipt 1 2)) 16 6 ∷ refused (step 1 (send 0)) 72 4 ∷ accepted (line 0) 8 (0 ∷ 0 ∷ []) table140
+    ∷ refused (step 1 (receipt 1 2)) 16 6 ∷ refused (step 1 (send 0)) 1 4 ∷ accepted (line 0) 8 (0 ∷ 0 ∷ []) table140
     ∷ accepted (line 1) 8 (1 ∷ 1 ∷ []) table140 ∷ accepted (line 2) 8 (4 ∷ 2 ∷ []) table140 ∷ accepted (line 3) 8 (6 ∷ 6 ∷ []) table140
     ∷ accepted (line 12) 8 (6 ∷ 6 ∷ []) table140 ∷ accepted (line 4294967295) 8 (6 ∷ 6 ∷ []) table140 ∷ accepted (failed 0) 16 (6 ∷ 6 ∷ 0 ∷ 0 ∷ []) table140
     ∷ accepted (failed 1) 16 (4 ∷ 2 ∷ 3 ∷ 2 ∷ []) table140 ∷ accepted (failed 2) 16 (4 ∷ 2 ∷ 3 ∷ 2 ∷ []) table140
@@ -858,7 +858,7 @@ table147 = bytes (3 ∷ 2 ∷ 2 ∷ 0 ∷ 2 ∷ 3 ∷ 2 ∷ 1 ∷ 0 ∷ 3 ∷ 2 
 -- A run from fresh: n = 3, E = 2.
 abbrev run6 : List Script
 run6 = script (lent 140) (accepted (fresh 3 2) 0 [] table141 ∷ refused (step 2 (receipt 1 2)) 16 7 ∷ refused (step 2 (receipt 0 2)) 16 7
-    ∷ accepted (step 2 checkpoint) 4 (1 ∷ []) table142 ∷ accepted (step 0 (send 2)) 8 (1 ∷ 0 ∷ []) table143 ∷ refused (step 1 (receipt 0 1)) 7 4
+    ∷ accepted (step 2 checkpoint) 4 (1 ∷ []) table142 ∷ accepted (step 0 (send 2)) 8 (1 ∷ 0 ∷ []) table143 ∷ refused (step 1 (receipt 0 1)) 17 4
     ∷ accepted (step 2 (send 0)) 8 (1 ∷ 1 ∷ []) table144 ∷ refused (step 2 (receipt 0 1)) 16 9 ∷ refused (step 0 (receipt 2 1)) 16 9
     ∷ accepted (step 1 (send 2)) 8 (1 ∷ 0 ∷ []) table145 ∷ refused (step 2 (receipt 1 1)) 16 9 ∷ refused (step 0 (receipt 2 1)) 16 9
     ∷ accepted (step 0 (send 2)) 8 (2 ∷ 0 ∷ []) table146 ∷ accepted (step 1 (send 0)) 8 (2 ∷ 0 ∷ []) table147 ∷ refused (step 0 (receipt 1 2)) 16 9
@@ -937,169 +937,169 @@ table157 = bytes (3 ∷ 4 ∷ 0 ∷ 0 ∷ 0 ∷ 0 ∷ 0 ∷ 0 ∷ 0 ∷ 0 ∷ 0 
     ∷ 0 ∷ 0 ∷ 0 ∷ 0 ∷ 0 ∷ 0 ∷ 0 ∷ 0 ∷ 0 ∷ 0 ∷ 0 ∷ 0 ∷ 0 ∷ 0 ∷ 0 ∷ 0 ∷ 0 ∷ 0 ∷ 0 ∷ 0 ∷ 0 ∷ 0 ∷ 0 ∷ 0 ∷ [])
 
 abbrev table158 : List ℕ
-table158 = bytes (3 ∷ 4 ∷ 0 ∷ 0 ∷ 0 ∷ 0 ∷ 0 ∷ 0 ∷ 0 ∷ 0 ∷ 0 ∷ 0 ∷ 0 ∷ 0 ∷ 0 ∷ 0 ∷ 0 ∷ 0 ∷ 0 ∷ 0 ∷ 0 ∷ 2 ∷ 1 ∷ 1 ∷ 3 ∷ 2 ∷ 1 ∷ 0 ∷ 1 ∷ 1 ∷ 0 ∷ 0 ∷ 0 ∷ 0 ∷ 0
+table158 = bytes (3 ∷ 4 ∷ 1 ∷ 1 ∷ 0 ∷ 1 ∷ 1 ∷ 0 ∷ 0 ∷ 0 ∷ 0 ∷ 0 ∷ 0 ∷ 0 ∷ 0 ∷ 0 ∷ 0 ∷ 0 ∷ 0 ∷ 0 ∷ 0 ∷ 1 ∷ 0 ∷ 1 ∷ 3 ∷ 2 ∷ 1 ∷ 0 ∷ 0 ∷ 0 ∷ 0 ∷ 0 ∷ 0 ∷ 0 ∷ 0
     ∷ 0 ∷ 0 ∷ 0 ∷ 0 ∷ 0 ∷ 0 ∷ 0 ∷ 0 ∷ 0 ∷ 0 ∷ 0 ∷ 0 ∷ 0 ∷ 0 ∷ 0 ∷ 0 ∷ 0 ∷ 0 ∷ 0 ∷ 0 ∷ 0 ∷ 0 ∷ 0 ∷ 0 ∷ [])
 
 abbrev table159 : List ℕ
-table159 = bytes (3 ∷ 4 ∷ 0 ∷ 0 ∷ 0 ∷ 0 ∷ 0 ∷ 0 ∷ 0 ∷ 0 ∷ 0 ∷ 0 ∷ 0 ∷ 0 ∷ 0 ∷ 0 ∷ 0 ∷ 0 ∷ 0 ∷ 0 ∷ 0 ∷ 3 ∷ 2 ∷ 1 ∷ 3 ∷ 2 ∷ 1 ∷ 0 ∷ 1 ∷ 1 ∷ 0 ∷ 0 ∷ 1 ∷ 2 ∷ 0
+table159 = bytes (3 ∷ 4 ∷ 1 ∷ 1 ∷ 0 ∷ 1 ∷ 1 ∷ 0 ∷ 0 ∷ 0 ∷ 0 ∷ 0 ∷ 0 ∷ 0 ∷ 0 ∷ 0 ∷ 0 ∷ 0 ∷ 0 ∷ 0 ∷ 0 ∷ 2 ∷ 1 ∷ 1 ∷ 3 ∷ 2 ∷ 1 ∷ 0 ∷ 1 ∷ 1 ∷ 0 ∷ 0 ∷ 0 ∷ 0 ∷ 0
     ∷ 0 ∷ 0 ∷ 0 ∷ 0 ∷ 0 ∷ 0 ∷ 0 ∷ 0 ∷ 0 ∷ 0 ∷ 0 ∷ 0 ∷ 0 ∷ 0 ∷ 0 ∷ 0 ∷ 0 ∷ 0 ∷ 0 ∷ 0 ∷ 0 ∷ 0 ∷ 0 ∷ 0 ∷ [])
 
 abbrev table160 : List ℕ
-table160 = bytes (3 ∷ 4 ∷ 0 ∷ 0 ∷ 0 ∷ 0 ∷ 0 ∷ 0 ∷ 0 ∷ 0 ∷ 0 ∷ 0 ∷ 0 ∷ 0 ∷ 0 ∷ 0 ∷ 0 ∷ 0 ∷ 0 ∷ 0 ∷ 0 ∷ 3 ∷ 2 ∷ 1 ∷ 3 ∷ 2 ∷ 1 ∷ 0 ∷ 1 ∷ 1 ∷ 0 ∷ 0 ∷ 1 ∷ 2 ∷ 0
-    ∷ 0 ∷ 0 ∷ 0 ∷ 0 ∷ 0 ∷ 1 ∷ 0 ∷ 0 ∷ 4 ∷ 1 ∷ 1 ∷ 0 ∷ 0 ∷ 0 ∷ 0 ∷ 0 ∷ 0 ∷ 0 ∷ 0 ∷ 0 ∷ 0 ∷ 0 ∷ 0 ∷ 0 ∷ [])
+table160 = bytes (3 ∷ 4 ∷ 1 ∷ 1 ∷ 0 ∷ 1 ∷ 1 ∷ 0 ∷ 0 ∷ 0 ∷ 0 ∷ 0 ∷ 0 ∷ 0 ∷ 0 ∷ 0 ∷ 0 ∷ 0 ∷ 0 ∷ 0 ∷ 0 ∷ 3 ∷ 2 ∷ 1 ∷ 3 ∷ 2 ∷ 1 ∷ 0 ∷ 1 ∷ 1 ∷ 0 ∷ 0 ∷ 1 ∷ 2 ∷ 0
+    ∷ 0 ∷ 0 ∷ 0 ∷ 0 ∷ 0 ∷ 0 ∷ 0 ∷ 0 ∷ 0 ∷ 0 ∷ 0 ∷ 0 ∷ 0 ∷ 0 ∷ 0 ∷ 0 ∷ 0 ∷ 0 ∷ 0 ∷ 0 ∷ 0 ∷ 0 ∷ 0 ∷ 0 ∷ [])
 
 abbrev table161 : List ℕ
-table161 = bytes (3 ∷ 4 ∷ 1 ∷ 0 ∷ 1 ∷ 3 ∷ 2 ∷ 1 ∷ 0 ∷ 0 ∷ 0 ∷ 0 ∷ 0 ∷ 0 ∷ 0 ∷ 0 ∷ 0 ∷ 0 ∷ 0 ∷ 0 ∷ 0 ∷ 3 ∷ 2 ∷ 1 ∷ 3 ∷ 2 ∷ 1 ∷ 0 ∷ 1 ∷ 1 ∷ 0 ∷ 0 ∷ 1 ∷ 2 ∷ 0
+table161 = bytes (3 ∷ 4 ∷ 1 ∷ 1 ∷ 0 ∷ 1 ∷ 1 ∷ 0 ∷ 0 ∷ 0 ∷ 0 ∷ 0 ∷ 0 ∷ 0 ∷ 0 ∷ 0 ∷ 0 ∷ 0 ∷ 0 ∷ 0 ∷ 0 ∷ 3 ∷ 2 ∷ 1 ∷ 3 ∷ 2 ∷ 1 ∷ 0 ∷ 1 ∷ 1 ∷ 0 ∷ 0 ∷ 1 ∷ 2 ∷ 0
     ∷ 0 ∷ 0 ∷ 0 ∷ 0 ∷ 0 ∷ 1 ∷ 0 ∷ 0 ∷ 4 ∷ 1 ∷ 1 ∷ 0 ∷ 0 ∷ 0 ∷ 0 ∷ 0 ∷ 0 ∷ 0 ∷ 0 ∷ 0 ∷ 0 ∷ 0 ∷ 0 ∷ 0 ∷ [])
 
 abbrev table162 : List ℕ
-table162 = bytes (3 ∷ 4 ∷ 2 ∷ 0 ∷ 2 ∷ 3 ∷ 2 ∷ 1 ∷ 0 ∷ 3 ∷ 1 ∷ 2 ∷ 0 ∷ 0 ∷ 0 ∷ 0 ∷ 0 ∷ 0 ∷ 0 ∷ 0 ∷ 0 ∷ 3 ∷ 2 ∷ 1 ∷ 3 ∷ 2 ∷ 1 ∷ 0 ∷ 1 ∷ 1 ∷ 0 ∷ 0 ∷ 1 ∷ 2 ∷ 0
+table162 = bytes (3 ∷ 4 ∷ 2 ∷ 1 ∷ 1 ∷ 1 ∷ 1 ∷ 0 ∷ 0 ∷ 3 ∷ 2 ∷ 1 ∷ 1 ∷ 0 ∷ 0 ∷ 0 ∷ 0 ∷ 0 ∷ 0 ∷ 0 ∷ 0 ∷ 3 ∷ 2 ∷ 1 ∷ 3 ∷ 2 ∷ 1 ∷ 0 ∷ 1 ∷ 1 ∷ 0 ∷ 0 ∷ 1 ∷ 2 ∷ 0
     ∷ 0 ∷ 0 ∷ 0 ∷ 0 ∷ 0 ∷ 1 ∷ 0 ∷ 0 ∷ 4 ∷ 1 ∷ 1 ∷ 0 ∷ 0 ∷ 0 ∷ 0 ∷ 0 ∷ 0 ∷ 0 ∷ 0 ∷ 0 ∷ 0 ∷ 0 ∷ 0 ∷ 0 ∷ [])
 
 abbrev table163 : List ℕ
-table163 = bytes (3 ∷ 4 ∷ 3 ∷ 0 ∷ 3 ∷ 3 ∷ 2 ∷ 1 ∷ 0 ∷ 3 ∷ 1 ∷ 2 ∷ 0 ∷ 3 ∷ 2 ∷ 3 ∷ 0 ∷ 0 ∷ 0 ∷ 0 ∷ 0 ∷ 3 ∷ 2 ∷ 1 ∷ 3 ∷ 2 ∷ 1 ∷ 0 ∷ 1 ∷ 1 ∷ 0 ∷ 0 ∷ 1 ∷ 2 ∷ 0
+table163 = bytes (3 ∷ 4 ∷ 3 ∷ 1 ∷ 2 ∷ 1 ∷ 1 ∷ 0 ∷ 0 ∷ 3 ∷ 2 ∷ 1 ∷ 1 ∷ 3 ∷ 1 ∷ 2 ∷ 1 ∷ 0 ∷ 0 ∷ 0 ∷ 0 ∷ 3 ∷ 2 ∷ 1 ∷ 3 ∷ 2 ∷ 1 ∷ 0 ∷ 1 ∷ 1 ∷ 0 ∷ 0 ∷ 1 ∷ 2 ∷ 0
     ∷ 0 ∷ 0 ∷ 0 ∷ 0 ∷ 0 ∷ 1 ∷ 0 ∷ 0 ∷ 4 ∷ 1 ∷ 1 ∷ 0 ∷ 0 ∷ 0 ∷ 0 ∷ 0 ∷ 0 ∷ 0 ∷ 0 ∷ 0 ∷ 0 ∷ 0 ∷ 0 ∷ 0 ∷ [])
 
 abbrev table164 : List ℕ
-table164 = bytes (3 ∷ 4 ∷ 3 ∷ 0 ∷ 3 ∷ 3 ∷ 2 ∷ 1 ∷ 0 ∷ 3 ∷ 1 ∷ 2 ∷ 0 ∷ 3 ∷ 2 ∷ 3 ∷ 0 ∷ 0 ∷ 0 ∷ 0 ∷ 0 ∷ 3 ∷ 2 ∷ 1 ∷ 3 ∷ 2 ∷ 1 ∷ 0 ∷ 1 ∷ 1 ∷ 0 ∷ 0 ∷ 1 ∷ 2 ∷ 0
-    ∷ 0 ∷ 0 ∷ 0 ∷ 0 ∷ 0 ∷ 2 ∷ 1 ∷ 0 ∷ 4 ∷ 1 ∷ 1 ∷ 0 ∷ 1 ∷ 1 ∷ 0 ∷ 0 ∷ 0 ∷ 0 ∷ 0 ∷ 0 ∷ 0 ∷ 0 ∷ 0 ∷ 0 ∷ [])
+table164 = bytes (3 ∷ 4 ∷ 4 ∷ 1 ∷ 3 ∷ 1 ∷ 1 ∷ 0 ∷ 0 ∷ 3 ∷ 2 ∷ 1 ∷ 1 ∷ 3 ∷ 1 ∷ 2 ∷ 1 ∷ 3 ∷ 2 ∷ 3 ∷ 1 ∷ 3 ∷ 2 ∷ 1 ∷ 3 ∷ 2 ∷ 1 ∷ 0 ∷ 1 ∷ 1 ∷ 0 ∷ 0 ∷ 1 ∷ 2 ∷ 0
+    ∷ 0 ∷ 0 ∷ 0 ∷ 0 ∷ 0 ∷ 1 ∷ 0 ∷ 0 ∷ 4 ∷ 1 ∷ 1 ∷ 0 ∷ 0 ∷ 0 ∷ 0 ∷ 0 ∷ 0 ∷ 0 ∷ 0 ∷ 0 ∷ 0 ∷ 0 ∷ 0 ∷ 0 ∷ [])
 
 abbrev table165 : List ℕ
-table165 = bytes (3 ∷ 4 ∷ 3 ∷ 0 ∷ 3 ∷ 3 ∷ 2 ∷ 1 ∷ 0 ∷ 3 ∷ 1 ∷ 2 ∷ 0 ∷ 3 ∷ 2 ∷ 3 ∷ 0 ∷ 0 ∷ 0 ∷ 0 ∷ 0 ∷ 3 ∷ 2 ∷ 1 ∷ 3 ∷ 2 ∷ 1 ∷ 0 ∷ 1 ∷ 1 ∷ 0 ∷ 0 ∷ 1 ∷ 2 ∷ 0
-    ∷ 0 ∷ 0 ∷ 0 ∷ 0 ∷ 0 ∷ 3 ∷ 1 ∷ 1 ∷ 4 ∷ 1 ∷ 1 ∷ 0 ∷ 1 ∷ 1 ∷ 0 ∷ 0 ∷ 3 ∷ 1 ∷ 1 ∷ 1 ∷ 0 ∷ 0 ∷ 0 ∷ 0 ∷ [])
+table165 = bytes (3 ∷ 4 ∷ 4 ∷ 1 ∷ 3 ∷ 1 ∷ 1 ∷ 0 ∷ 0 ∷ 3 ∷ 2 ∷ 1 ∷ 1 ∷ 3 ∷ 1 ∷ 2 ∷ 1 ∷ 3 ∷ 2 ∷ 3 ∷ 1 ∷ 3 ∷ 2 ∷ 1 ∷ 3 ∷ 2 ∷ 1 ∷ 0 ∷ 1 ∷ 1 ∷ 0 ∷ 0 ∷ 1 ∷ 2 ∷ 0
+    ∷ 0 ∷ 0 ∷ 0 ∷ 0 ∷ 0 ∷ 2 ∷ 1 ∷ 0 ∷ 4 ∷ 1 ∷ 1 ∷ 0 ∷ 1 ∷ 1 ∷ 0 ∷ 0 ∷ 0 ∷ 0 ∷ 0 ∷ 0 ∷ 0 ∷ 0 ∷ 0 ∷ 0 ∷ [])
 
 abbrev table166 : List ℕ
-table166 = bytes (3 ∷ 4 ∷ 3 ∷ 0 ∷ 3 ∷ 3 ∷ 2 ∷ 1 ∷ 0 ∷ 3 ∷ 1 ∷ 2 ∷ 0 ∷ 3 ∷ 2 ∷ 3 ∷ 0 ∷ 0 ∷ 0 ∷ 0 ∷ 0 ∷ 3 ∷ 2 ∷ 1 ∷ 3 ∷ 2 ∷ 1 ∷ 0 ∷ 1 ∷ 1 ∷ 0 ∷ 0 ∷ 1 ∷ 2 ∷ 0
-    ∷ 0 ∷ 0 ∷ 0 ∷ 0 ∷ 0 ∷ 4 ∷ 1 ∷ 1 ∷ 4 ∷ 1 ∷ 1 ∷ 0 ∷ 1 ∷ 1 ∷ 0 ∷ 0 ∷ 3 ∷ 1 ∷ 1 ∷ 1 ∷ 4 ∷ 0 ∷ 3 ∷ 0 ∷ [])
+table166 = bytes (3 ∷ 4 ∷ 4 ∷ 1 ∷ 3 ∷ 1 ∷ 1 ∷ 0 ∷ 0 ∷ 3 ∷ 2 ∷ 1 ∷ 1 ∷ 3 ∷ 1 ∷ 2 ∷ 1 ∷ 3 ∷ 2 ∷ 3 ∷ 1 ∷ 3 ∷ 2 ∷ 1 ∷ 3 ∷ 2 ∷ 1 ∷ 0 ∷ 1 ∷ 1 ∷ 0 ∷ 0 ∷ 1 ∷ 2 ∷ 0
+    ∷ 0 ∷ 0 ∷ 0 ∷ 0 ∷ 0 ∷ 3 ∷ 1 ∷ 1 ∷ 4 ∷ 1 ∷ 1 ∷ 0 ∷ 1 ∷ 1 ∷ 0 ∷ 0 ∷ 3 ∷ 1 ∷ 1 ∷ 1 ∷ 0 ∷ 0 ∷ 0 ∷ 0 ∷ [])
 
 abbrev table167 : List ℕ
-table167 = bytes (3 ∷ 4 ∷ 3 ∷ 0 ∷ 3 ∷ 3 ∷ 2 ∷ 1 ∷ 0 ∷ 3 ∷ 1 ∷ 2 ∷ 0 ∷ 3 ∷ 2 ∷ 3 ∷ 0 ∷ 0 ∷ 0 ∷ 0 ∷ 0 ∷ 4 ∷ 2 ∷ 1 ∷ 3 ∷ 2 ∷ 1 ∷ 0 ∷ 1 ∷ 1 ∷ 0 ∷ 0 ∷ 1 ∷ 2 ∷ 0
-    ∷ 0 ∷ 4 ∷ 2 ∷ 1 ∷ 1 ∷ 4 ∷ 1 ∷ 1 ∷ 4 ∷ 1 ∷ 1 ∷ 0 ∷ 1 ∷ 1 ∷ 0 ∷ 0 ∷ 3 ∷ 1 ∷ 1 ∷ 1 ∷ 4 ∷ 0 ∷ 3 ∷ 0 ∷ [])
+table167 = bytes (3 ∷ 4 ∷ 4 ∷ 1 ∷ 3 ∷ 1 ∷ 1 ∷ 0 ∷ 0 ∷ 3 ∷ 2 ∷ 1 ∷ 1 ∷ 3 ∷ 1 ∷ 2 ∷ 1 ∷ 3 ∷ 2 ∷ 3 ∷ 1 ∷ 3 ∷ 2 ∷ 1 ∷ 3 ∷ 2 ∷ 1 ∷ 0 ∷ 1 ∷ 1 ∷ 0 ∷ 0 ∷ 1 ∷ 2 ∷ 0
+    ∷ 0 ∷ 0 ∷ 0 ∷ 0 ∷ 0 ∷ 4 ∷ 1 ∷ 1 ∷ 4 ∷ 1 ∷ 1 ∷ 0 ∷ 1 ∷ 1 ∷ 0 ∷ 0 ∷ 3 ∷ 1 ∷ 1 ∷ 1 ∷ 4 ∷ 0 ∷ 3 ∷ 1 ∷ [])
+
+abbrev table168 : List ℕ
+table168 = bytes (3 ∷ 4 ∷ 4 ∷ 1 ∷ 3 ∷ 1 ∷ 1 ∷ 0 ∷ 0 ∷ 3 ∷ 2 ∷ 1 ∷ 1 ∷ 3 ∷ 1 ∷ 2 ∷ 1 ∷ 3 ∷ 2 ∷ 3 ∷ 1 ∷ 4 ∷ 2 ∷ 1 ∷ 3 ∷ 2 ∷ 1 ∷ 0 ∷ 1 ∷ 1 ∷ 0 ∷ 0 ∷ 1 ∷ 2 ∷ 0
+    ∷ 0 ∷ 4 ∷ 2 ∷ 1 ∷ 1 ∷ 4 ∷ 1 ∷ 1 ∷ 4 ∷ 1 ∷ 1 ∷ 0 ∷ 1 ∷ 1 ∷ 0 ∷ 0 ∷ 3 ∷ 1 ∷ 1 ∷ 1 ∷ 4 ∷ 0 ∷ 3 ∷ 1 ∷ [])
 
 -- A run from fresh: n = 3, E = 4.
 abbrev run8 : List Script
-run8 = script (lent 236) (accepted (fresh 3 4) 0 [] table156 ∷ accepted (step 1 (send 2)) 8 (1 ∷ 0 ∷ []) table157 ∷ refused (step 0 checkpoint) 7 4
-    ∷ refused (step 2 (receipt 1 1)) 15 4 ∷ refused (step 2 (receipt 1 1)) 12 4 ∷ refused (step 2 (send 2)) 8 6
-    ∷ accepted (step 1 checkpoint) 4 (1 ∷ []) table158 ∷ accepted (step 1 checkpoint) 4 (2 ∷ []) table159 ∷ refused (step 2 (receipt 1 1)) 17 4
-    ∷ accepted (step 2 (receipt 1 1)) 16 (0 ∷ 0 ∷ 1 ∷ 1 ∷ []) table160 ∷ accepted (step 0 (send 2)) 8 (1 ∷ 0 ∷ []) table161
-    ∷ accepted (step 0 (send 1)) 8 (2 ∷ 0 ∷ []) table162 ∷ accepted (step 0 (send 2)) 8 (3 ∷ 0 ∷ []) table163
-    ∷ accepted (step 2 checkpoint) 4 (1 ∷ []) table164 ∷ accepted (step 2 (send 1)) 8 (1 ∷ 1 ∷ []) table165
-    ∷ accepted (step 2 (receipt 0 3)) 16 (0 ∷ 0 ∷ 3 ∷ 4 ∷ []) table166 ∷ refused (step 2 (receipt 0 1)) 16 9 ∷ refused (step 2 checkpoint) 4 9
-    ∷ accepted (step 1 (receipt 2 1)) 16 (1 ∷ 0 ∷ 3 ∷ 4 ∷ []) table167 ∷ refused (step 1 (receipt 0 2)) 16 9 ∷ refused (step 1 (receipt 2 1)) 16 8
-    ∷ accepted (line 0) 12 (0 ∷ 0 ∷ 0 ∷ []) table167 ∷ accepted (line 1) 12 (3 ∷ 2 ∷ 2 ∷ []) table167 ∷ accepted (line 2) 12 (3 ∷ 3 ∷ 4 ∷ []) table167
-    ∷ accepted (line 3) 12 (3 ∷ 4 ∷ 4 ∷ []) table167 ∷ accepted (line 12) 12 (3 ∷ 4 ∷ 4 ∷ []) table167
-    ∷ accepted (line 4294967295) 12 (3 ∷ 4 ∷ 4 ∷ []) table167 ∷ accepted (failed 0) 20 (3 ∷ 4 ∷ 4 ∷ 0 ∷ 0 ∷ []) table167
-    ∷ accepted (failed 1) 20 (0 ∷ 3 ∷ 2 ∷ 7 ∷ 3 ∷ []) table167 ∷ accepted (failed 2) 20 (3 ∷ 3 ∷ 4 ∷ 2 ∷ 1 ∷ []) table167
-    ∷ accepted (failed 3) 20 (0 ∷ 3 ∷ 2 ∷ 7 ∷ 3 ∷ []) table167 ∷ accepted (failed 4) 20 (3 ∷ 3 ∷ 2 ∷ 6 ∷ 2 ∷ []) table167
-    ∷ accepted (failed 5) 20 (0 ∷ 3 ∷ 2 ∷ 7 ∷ 3 ∷ []) table167 ∷ accepted (failed 6) 20 (3 ∷ 3 ∷ 2 ∷ 6 ∷ 2 ∷ []) table167
-    ∷ accepted (failed 7) 20 (0 ∷ 3 ∷ 2 ∷ 7 ∷ 3 ∷ []) table167 ∷ refused (failed 8) 20 11 ∷ refused (failed 4294967295) 20 11 ∷ []) ∷ []
+run8 = script (lent 236) (accepted (fresh 3 4) 0 [] table156 ∷ accepted (step 1 (send 2)) 8 (1 ∷ 0 ∷ []) table157
+    ∷ accepted (step 0 checkpoint) 4 (1 ∷ []) table158 ∷ refused (step 2 (receipt 1 1)) 3 4 ∷ refused (step 2 (receipt 1 1)) 12 4
+    ∷ refused (step 2 (send 2)) 8 6 ∷ accepted (step 1 checkpoint) 4 (1 ∷ []) table159 ∷ accepted (step 1 checkpoint) 4 (2 ∷ []) table160
+    ∷ refused (step 2 (receipt 1 1)) 12 4 ∷ accepted (step 2 (receipt 1 1)) 16 (0 ∷ 0 ∷ 1 ∷ 1 ∷ []) table161
+    ∷ accepted (step 0 (send 2)) 8 (1 ∷ 1 ∷ []) table162 ∷ accepted (step 0 (send 1)) 8 (2 ∷ 1 ∷ []) table163
+    ∷ accepted (step 0 (send 2)) 8 (3 ∷ 1 ∷ []) table164 ∷ accepted (step 2 checkpoint) 4 (1 ∷ []) table165
+    ∷ accepted (step 2 (send 1)) 8 (1 ∷ 1 ∷ []) table166 ∷ accepted (step 2 (receipt 0 3)) 16 (1 ∷ 0 ∷ 4 ∷ 4 ∷ []) table167
+    ∷ refused (step 2 (receipt 0 1)) 16 9 ∷ refused (step 2 checkpoint) 4 9 ∷ accepted (step 1 (receipt 2 1)) 16 (1 ∷ 0 ∷ 3 ∷ 4 ∷ []) table168
+    ∷ refused (step 1 (receipt 0 2)) 16 9 ∷ refused (step 1 (receipt 2 1)) 16 8 ∷ accepted (line 0) 12 (0 ∷ 0 ∷ 0 ∷ []) table168
+    ∷ accepted (line 1) 12 (1 ∷ 2 ∷ 2 ∷ []) table168 ∷ accepted (line 2) 12 (4 ∷ 3 ∷ 4 ∷ []) table168 ∷ accepted (line 3) 12 (4 ∷ 4 ∷ 4 ∷ []) table168
+    ∷ accepted (line 12) 12 (4 ∷ 4 ∷ 4 ∷ []) table168 ∷ accepted (line 4294967295) 12 (4 ∷ 4 ∷ 4 ∷ []) table168
+    ∷ accepted (failed 0) 20 (4 ∷ 4 ∷ 4 ∷ 0 ∷ 0 ∷ []) table168 ∷ accepted (failed 1) 20 (1 ∷ 3 ∷ 2 ∷ 7 ∷ 3 ∷ []) table168
+    ∷ accepted (failed 2) 20 (4 ∷ 3 ∷ 4 ∷ 2 ∷ 1 ∷ []) table168 ∷ accepted (failed 3) 20 (1 ∷ 3 ∷ 2 ∷ 7 ∷ 3 ∷ []) table168
+    ∷ accepted (failed 4) 20 (4 ∷ 3 ∷ 2 ∷ 6 ∷ 2 ∷ []) table168 ∷ accepted (failed 5) 20 (1 ∷ 3 ∷ 2 ∷ 7 ∷ 3 ∷ []) table168
+    ∷ accepted (failed 6) 20 (4 ∷ 3 ∷ 2 ∷ 6 ∷ 2 ∷ []) table168 ∷ accepted (failed 7) 20 (1 ∷ 3 ∷ 2 ∷ 7 ∷ 3 ∷ []) table168 ∷ refused (failed 8) 20 11
+    ∷ refused (failed 4294967295) 20 11 ∷ []) ∷ []
 
 pub run8-agree : Agree run8
 unfolding freshOn stepOn lineOn failedOn resendOn layout decoded wellLaid word putWord putWords failureAnswer failureLine rounds round ones onesIn inTransit
 run8-agree = refl
 
-abbrev table168 : List ℕ
-table168 = bytes (3 ∷ 6 ∷ 0 ∷ 0 ∷ 0 ∷ 0 ∷ 0 ∷ 0 ∷ 0 ∷ 0 ∷ 0 ∷ 0 ∷ 0 ∷ 0 ∷ 0 ∷ 0 ∷ 0 ∷ 0 ∷ 0 ∷ 0 ∷ 0 ∷ 0 ∷ 0 ∷ 0 ∷ 0 ∷ 0 ∷ 0 ∷ 0 ∷ 0 ∷ 0 ∷ 0 ∷ 0 ∷ 0 ∷ 0 ∷ 0
+abbrev table169 : List ℕ
+table169 = bytes (3 ∷ 6 ∷ 0 ∷ 0 ∷ 0 ∷ 0 ∷ 0 ∷ 0 ∷ 0 ∷ 0 ∷ 0 ∷ 0 ∷ 0 ∷ 0 ∷ 0 ∷ 0 ∷ 0 ∷ 0 ∷ 0 ∷ 0 ∷ 0 ∷ 0 ∷ 0 ∷ 0 ∷ 0 ∷ 0 ∷ 0 ∷ 0 ∷ 0 ∷ 0 ∷ 0 ∷ 0 ∷ 0 ∷ 0 ∷ 0
     ∷ 0 ∷ 0 ∷ 0 ∷ 0 ∷ 0 ∷ 0 ∷ 0 ∷ 0 ∷ 0 ∷ 0 ∷ 0 ∷ 0 ∷ 0 ∷ 0 ∷ 0 ∷ 0 ∷ 0 ∷ 0 ∷ 0 ∷ 0 ∷ 0 ∷ 1 ∷ 0 ∷ 1 ∷ 3 ∷ 0 ∷ 1 ∷ 0 ∷ 0 ∷ 0 ∷ 0 ∷ 0 ∷ 0 ∷ 0 ∷ 0 ∷ 0 ∷ 0 ∷ 0
     ∷ 0 ∷ 0 ∷ 0 ∷ 0 ∷ 0 ∷ 0 ∷ 0 ∷ 0 ∷ 0 ∷ 0 ∷ [])
 
-abbrev table169 : List ℕ
-table169 = bytes (3 ∷ 6 ∷ 0 ∷ 0 ∷ 0 ∷ 0 ∷ 0 ∷ 0 ∷ 0 ∷ 0 ∷ 0 ∷ 0 ∷ 0 ∷ 0 ∷ 0 ∷ 0 ∷ 0 ∷ 0 ∷ 0 ∷ 0 ∷ 0 ∷ 0 ∷ 0 ∷ 0 ∷ 0 ∷ 0 ∷ 0 ∷ 0 ∷ 0 ∷ 0 ∷ 0 ∷ 0 ∷ 0 ∷ 0 ∷ 0
-    ∷ 0 ∷ 0 ∷ 0 ∷ 0 ∷ 0 ∷ 0 ∷ 0 ∷ 0 ∷ 0 ∷ 0 ∷ 0 ∷ 0 ∷ 0 ∷ 0 ∷ 0 ∷ 0 ∷ 0 ∷ 0 ∷ 0 ∷ 0 ∷ 0 ∷ 2 ∷ 0 ∷ 2 ∷ 3 ∷ 0 ∷ 1 ∷ 0 ∷ 3 ∷ 1 ∷ 2 ∷ 0 ∷ 0 ∷ 0 ∷ 0 ∷ 0 ∷ 0 ∷ 0
-    ∷ 0 ∷ 0 ∷ 0 ∷ 0 ∷ 0 ∷ 0 ∷ 0 ∷ 0 ∷ 0 ∷ 0 ∷ [])
-
 abbrev table170 : List ℕ
-table170 = bytes (3 ∷ 6 ∷ 1 ∷ 0 ∷ 0 ∷ 4 ∷ 2 ∷ 1 ∷ 0 ∷ 0 ∷ 0 ∷ 0 ∷ 0 ∷ 0 ∷ 0 ∷ 0 ∷ 0 ∷ 0 ∷ 0 ∷ 0 ∷ 0 ∷ 0 ∷ 0 ∷ 0 ∷ 0 ∷ 0 ∷ 0 ∷ 0 ∷ 0 ∷ 0 ∷ 0 ∷ 0 ∷ 0 ∷ 0 ∷ 0
+table170 = bytes (3 ∷ 6 ∷ 0 ∷ 0 ∷ 0 ∷ 0 ∷ 0 ∷ 0 ∷ 0 ∷ 0 ∷ 0 ∷ 0 ∷ 0 ∷ 0 ∷ 0 ∷ 0 ∷ 0 ∷ 0 ∷ 0 ∷ 0 ∷ 0 ∷ 0 ∷ 0 ∷ 0 ∷ 0 ∷ 0 ∷ 0 ∷ 0 ∷ 0 ∷ 0 ∷ 0 ∷ 0 ∷ 0 ∷ 0 ∷ 0
     ∷ 0 ∷ 0 ∷ 0 ∷ 0 ∷ 0 ∷ 0 ∷ 0 ∷ 0 ∷ 0 ∷ 0 ∷ 0 ∷ 0 ∷ 0 ∷ 0 ∷ 0 ∷ 0 ∷ 0 ∷ 0 ∷ 0 ∷ 0 ∷ 0 ∷ 2 ∷ 0 ∷ 2 ∷ 3 ∷ 0 ∷ 1 ∷ 0 ∷ 3 ∷ 1 ∷ 2 ∷ 0 ∷ 0 ∷ 0 ∷ 0 ∷ 0 ∷ 0 ∷ 0
     ∷ 0 ∷ 0 ∷ 0 ∷ 0 ∷ 0 ∷ 0 ∷ 0 ∷ 0 ∷ 0 ∷ 0 ∷ [])
 
 abbrev table171 : List ℕ
-table171 = bytes (3 ∷ 6 ∷ 1 ∷ 0 ∷ 0 ∷ 4 ∷ 2 ∷ 1 ∷ 0 ∷ 0 ∷ 0 ∷ 0 ∷ 0 ∷ 0 ∷ 0 ∷ 0 ∷ 0 ∷ 0 ∷ 0 ∷ 0 ∷ 0 ∷ 0 ∷ 0 ∷ 0 ∷ 0 ∷ 0 ∷ 0 ∷ 0 ∷ 0 ∷ 1 ∷ 0 ∷ 1 ∷ 3 ∷ 2 ∷ 1
+table171 = bytes (3 ∷ 6 ∷ 1 ∷ 0 ∷ 0 ∷ 4 ∷ 2 ∷ 1 ∷ 0 ∷ 0 ∷ 0 ∷ 0 ∷ 0 ∷ 0 ∷ 0 ∷ 0 ∷ 0 ∷ 0 ∷ 0 ∷ 0 ∷ 0 ∷ 0 ∷ 0 ∷ 0 ∷ 0 ∷ 0 ∷ 0 ∷ 0 ∷ 0 ∷ 0 ∷ 0 ∷ 0 ∷ 0 ∷ 0 ∷ 0
     ∷ 0 ∷ 0 ∷ 0 ∷ 0 ∷ 0 ∷ 0 ∷ 0 ∷ 0 ∷ 0 ∷ 0 ∷ 0 ∷ 0 ∷ 0 ∷ 0 ∷ 0 ∷ 0 ∷ 0 ∷ 0 ∷ 0 ∷ 0 ∷ 0 ∷ 2 ∷ 0 ∷ 2 ∷ 3 ∷ 0 ∷ 1 ∷ 0 ∷ 3 ∷ 1 ∷ 2 ∷ 0 ∷ 0 ∷ 0 ∷ 0 ∷ 0 ∷ 0 ∷ 0
     ∷ 0 ∷ 0 ∷ 0 ∷ 0 ∷ 0 ∷ 0 ∷ 0 ∷ 0 ∷ 0 ∷ 0 ∷ [])
 
 abbrev table172 : List ℕ
-table172 = bytes (3 ∷ 6 ∷ 1 ∷ 0 ∷ 0 ∷ 4 ∷ 2 ∷ 1 ∷ 0 ∷ 0 ∷ 0 ∷ 0 ∷ 0 ∷ 0 ∷ 0 ∷ 0 ∷ 0 ∷ 0 ∷ 0 ∷ 0 ∷ 0 ∷ 0 ∷ 0 ∷ 0 ∷ 0 ∷ 0 ∷ 0 ∷ 0 ∷ 0 ∷ 2 ∷ 0 ∷ 2 ∷ 3 ∷ 2 ∷ 1
-    ∷ 0 ∷ 3 ∷ 2 ∷ 2 ∷ 0 ∷ 0 ∷ 0 ∷ 0 ∷ 0 ∷ 0 ∷ 0 ∷ 0 ∷ 0 ∷ 0 ∷ 0 ∷ 0 ∷ 0 ∷ 0 ∷ 0 ∷ 0 ∷ 0 ∷ 2 ∷ 0 ∷ 2 ∷ 3 ∷ 0 ∷ 1 ∷ 0 ∷ 3 ∷ 1 ∷ 2 ∷ 0 ∷ 0 ∷ 0 ∷ 0 ∷ 0 ∷ 0 ∷ 0
+table172 = bytes (3 ∷ 6 ∷ 1 ∷ 0 ∷ 0 ∷ 4 ∷ 2 ∷ 1 ∷ 0 ∷ 0 ∷ 0 ∷ 0 ∷ 0 ∷ 0 ∷ 0 ∷ 0 ∷ 0 ∷ 0 ∷ 0 ∷ 0 ∷ 0 ∷ 0 ∷ 0 ∷ 0 ∷ 0 ∷ 0 ∷ 0 ∷ 0 ∷ 0 ∷ 1 ∷ 0 ∷ 1 ∷ 3 ∷ 2 ∷ 1
+    ∷ 0 ∷ 0 ∷ 0 ∷ 0 ∷ 0 ∷ 0 ∷ 0 ∷ 0 ∷ 0 ∷ 0 ∷ 0 ∷ 0 ∷ 0 ∷ 0 ∷ 0 ∷ 0 ∷ 0 ∷ 0 ∷ 0 ∷ 0 ∷ 0 ∷ 2 ∷ 0 ∷ 2 ∷ 3 ∷ 0 ∷ 1 ∷ 0 ∷ 3 ∷ 1 ∷ 2 ∷ 0 ∷ 0 ∷ 0 ∷ 0 ∷ 0 ∷ 0 ∷ 0
     ∷ 0 ∷ 0 ∷ 0 ∷ 0 ∷ 0 ∷ 0 ∷ 0 ∷ 0 ∷ 0 ∷ 0 ∷ [])
 
 abbrev table173 : List ℕ
-table173 = bytes (3 ∷ 6 ∷ 1 ∷ 0 ∷ 0 ∷ 4 ∷ 2 ∷ 1 ∷ 0 ∷ 0 ∷ 0 ∷ 0 ∷ 0 ∷ 0 ∷ 0 ∷ 0 ∷ 0 ∷ 0 ∷ 0 ∷ 0 ∷ 0 ∷ 0 ∷ 0 ∷ 0 ∷ 0 ∷ 0 ∷ 0 ∷ 0 ∷ 0 ∷ 3 ∷ 0 ∷ 3 ∷ 3 ∷ 2 ∷ 1
-    ∷ 0 ∷ 3 ∷ 2 ∷ 2 ∷ 0 ∷ 3 ∷ 2 ∷ 3 ∷ 0 ∷ 0 ∷ 0 ∷ 0 ∷ 0 ∷ 0 ∷ 0 ∷ 0 ∷ 0 ∷ 0 ∷ 0 ∷ 0 ∷ 0 ∷ 2 ∷ 0 ∷ 2 ∷ 3 ∷ 0 ∷ 1 ∷ 0 ∷ 3 ∷ 1 ∷ 2 ∷ 0 ∷ 0 ∷ 0 ∷ 0 ∷ 0 ∷ 0 ∷ 0
+table173 = bytes (3 ∷ 6 ∷ 1 ∷ 0 ∷ 0 ∷ 4 ∷ 2 ∷ 1 ∷ 0 ∷ 0 ∷ 0 ∷ 0 ∷ 0 ∷ 0 ∷ 0 ∷ 0 ∷ 0 ∷ 0 ∷ 0 ∷ 0 ∷ 0 ∷ 0 ∷ 0 ∷ 0 ∷ 0 ∷ 0 ∷ 0 ∷ 0 ∷ 0 ∷ 2 ∷ 0 ∷ 2 ∷ 3 ∷ 2 ∷ 1
+    ∷ 0 ∷ 3 ∷ 2 ∷ 2 ∷ 0 ∷ 0 ∷ 0 ∷ 0 ∷ 0 ∷ 0 ∷ 0 ∷ 0 ∷ 0 ∷ 0 ∷ 0 ∷ 0 ∷ 0 ∷ 0 ∷ 0 ∷ 0 ∷ 0 ∷ 2 ∷ 0 ∷ 2 ∷ 3 ∷ 0 ∷ 1 ∷ 0 ∷ 3 ∷ 1 ∷ 2 ∷ 0 ∷ 0 ∷ 0 ∷ 0 ∷ 0 ∷ 0 ∷ 0
     ∷ 0 ∷ 0 ∷ 0 ∷ 0 ∷ 0 ∷ 0 ∷ 0 ∷ 0 ∷ 0 ∷ 0 ∷ [])
 
 abbrev table174 : List ℕ
 table174 = bytes (3 ∷ 6 ∷ 1 ∷ 0 ∷ 0 ∷ 4 ∷ 2 ∷ 1 ∷ 0 ∷ 0 ∷ 0 ∷ 0 ∷ 0 ∷ 0 ∷ 0 ∷ 0 ∷ 0 ∷ 0 ∷ 0 ∷ 0 ∷ 0 ∷ 0 ∷ 0 ∷ 0 ∷ 0 ∷ 0 ∷ 0 ∷ 0 ∷ 0 ∷ 3 ∷ 0 ∷ 3 ∷ 3 ∷ 2 ∷ 1
-    ∷ 0 ∷ 3 ∷ 2 ∷ 2 ∷ 0 ∷ 3 ∷ 2 ∷ 3 ∷ 0 ∷ 0 ∷ 0 ∷ 0 ∷ 0 ∷ 0 ∷ 0 ∷ 0 ∷ 0 ∷ 0 ∷ 0 ∷ 0 ∷ 0 ∷ 3 ∷ 0 ∷ 3 ∷ 3 ∷ 0 ∷ 1 ∷ 0 ∷ 3 ∷ 1 ∷ 2 ∷ 0 ∷ 3 ∷ 0 ∷ 3 ∷ 0 ∷ 0 ∷ 0
+    ∷ 0 ∷ 3 ∷ 2 ∷ 2 ∷ 0 ∷ 3 ∷ 2 ∷ 3 ∷ 0 ∷ 0 ∷ 0 ∷ 0 ∷ 0 ∷ 0 ∷ 0 ∷ 0 ∷ 0 ∷ 0 ∷ 0 ∷ 0 ∷ 0 ∷ 2 ∷ 0 ∷ 2 ∷ 3 ∷ 0 ∷ 1 ∷ 0 ∷ 3 ∷ 1 ∷ 2 ∷ 0 ∷ 0 ∷ 0 ∷ 0 ∷ 0 ∷ 0 ∷ 0
     ∷ 0 ∷ 0 ∷ 0 ∷ 0 ∷ 0 ∷ 0 ∷ 0 ∷ 0 ∷ 0 ∷ 0 ∷ [])
 
 abbrev table175 : List ℕ
-table175 = bytes (3 ∷ 6 ∷ 1 ∷ 0 ∷ 0 ∷ 4 ∷ 2 ∷ 1 ∷ 0 ∷ 0 ∷ 0 ∷ 0 ∷ 0 ∷ 0 ∷ 0 ∷ 0 ∷ 0 ∷ 0 ∷ 0 ∷ 0 ∷ 0 ∷ 0 ∷ 0 ∷ 0 ∷ 0 ∷ 0 ∷ 0 ∷ 0 ∷ 0 ∷ 4 ∷ 1 ∷ 3 ∷ 3 ∷ 2 ∷ 1
-    ∷ 0 ∷ 3 ∷ 2 ∷ 2 ∷ 0 ∷ 3 ∷ 2 ∷ 3 ∷ 0 ∷ 1 ∷ 1 ∷ 0 ∷ 0 ∷ 0 ∷ 0 ∷ 0 ∷ 0 ∷ 0 ∷ 0 ∷ 0 ∷ 0 ∷ 3 ∷ 0 ∷ 3 ∷ 3 ∷ 0 ∷ 1 ∷ 0 ∷ 3 ∷ 1 ∷ 2 ∷ 0 ∷ 3 ∷ 0 ∷ 3 ∷ 0 ∷ 0 ∷ 0
+table175 = bytes (3 ∷ 6 ∷ 1 ∷ 0 ∷ 0 ∷ 4 ∷ 2 ∷ 1 ∷ 0 ∷ 0 ∷ 0 ∷ 0 ∷ 0 ∷ 0 ∷ 0 ∷ 0 ∷ 0 ∷ 0 ∷ 0 ∷ 0 ∷ 0 ∷ 0 ∷ 0 ∷ 0 ∷ 0 ∷ 0 ∷ 0 ∷ 0 ∷ 0 ∷ 3 ∷ 0 ∷ 3 ∷ 3 ∷ 2 ∷ 1
+    ∷ 0 ∷ 3 ∷ 2 ∷ 2 ∷ 0 ∷ 3 ∷ 2 ∷ 3 ∷ 0 ∷ 0 ∷ 0 ∷ 0 ∷ 0 ∷ 0 ∷ 0 ∷ 0 ∷ 0 ∷ 0 ∷ 0 ∷ 0 ∷ 0 ∷ 3 ∷ 0 ∷ 3 ∷ 3 ∷ 0 ∷ 1 ∷ 0 ∷ 3 ∷ 1 ∷ 2 ∷ 0 ∷ 3 ∷ 0 ∷ 3 ∷ 0 ∷ 0 ∷ 0
     ∷ 0 ∷ 0 ∷ 0 ∷ 0 ∷ 0 ∷ 0 ∷ 0 ∷ 0 ∷ 0 ∷ 0 ∷ [])
 
 abbrev table176 : List ℕ
-table176 = bytes (3 ∷ 6 ∷ 1 ∷ 0 ∷ 0 ∷ 4 ∷ 2 ∷ 1 ∷ 0 ∷ 0 ∷ 0 ∷ 0 ∷ 0 ∷ 0 ∷ 0 ∷ 0 ∷ 0 ∷ 0 ∷ 0 ∷ 0 ∷ 0 ∷ 0 ∷ 0 ∷ 0 ∷ 0 ∷ 0 ∷ 0 ∷ 0 ∷ 0 ∷ 5 ∷ 1 ∷ 4 ∷ 3 ∷ 2 ∷ 1
-    ∷ 0 ∷ 3 ∷ 2 ∷ 2 ∷ 0 ∷ 3 ∷ 2 ∷ 3 ∷ 0 ∷ 1 ∷ 1 ∷ 0 ∷ 0 ∷ 3 ∷ 2 ∷ 4 ∷ 1 ∷ 0 ∷ 0 ∷ 0 ∷ 0 ∷ 3 ∷ 0 ∷ 3 ∷ 3 ∷ 0 ∷ 1 ∷ 0 ∷ 3 ∷ 1 ∷ 2 ∷ 0 ∷ 3 ∷ 0 ∷ 3 ∷ 0 ∷ 0 ∷ 0
+table176 = bytes (3 ∷ 6 ∷ 1 ∷ 0 ∷ 0 ∷ 4 ∷ 2 ∷ 1 ∷ 0 ∷ 0 ∷ 0 ∷ 0 ∷ 0 ∷ 0 ∷ 0 ∷ 0 ∷ 0 ∷ 0 ∷ 0 ∷ 0 ∷ 0 ∷ 0 ∷ 0 ∷ 0 ∷ 0 ∷ 0 ∷ 0 ∷ 0 ∷ 0 ∷ 4 ∷ 1 ∷ 3 ∷ 3 ∷ 2 ∷ 1
+    ∷ 0 ∷ 3 ∷ 2 ∷ 2 ∷ 0 ∷ 3 ∷ 2 ∷ 3 ∷ 0 ∷ 1 ∷ 1 ∷ 0 ∷ 0 ∷ 0 ∷ 0 ∷ 0 ∷ 0 ∷ 0 ∷ 0 ∷ 0 ∷ 0 ∷ 3 ∷ 0 ∷ 3 ∷ 3 ∷ 0 ∷ 1 ∷ 0 ∷ 3 ∷ 1 ∷ 2 ∷ 0 ∷ 3 ∷ 0 ∷ 3 ∷ 0 ∷ 0 ∷ 0
     ∷ 0 ∷ 0 ∷ 0 ∷ 0 ∷ 0 ∷ 0 ∷ 0 ∷ 0 ∷ 0 ∷ 0 ∷ [])
 
 abbrev table177 : List ℕ
-table177 = bytes (3 ∷ 6 ∷ 2 ∷ 0 ∷ 0 ∷ 4 ∷ 2 ∷ 1 ∷ 0 ∷ 4 ∷ 2 ∷ 3 ∷ 0 ∷ 0 ∷ 0 ∷ 0 ∷ 0 ∷ 0 ∷ 0 ∷ 0 ∷ 0 ∷ 0 ∷ 0 ∷ 0 ∷ 0 ∷ 0 ∷ 0 ∷ 0 ∷ 0 ∷ 5 ∷ 1 ∷ 4 ∷ 3 ∷ 2 ∷ 1
+table177 = bytes (3 ∷ 6 ∷ 1 ∷ 0 ∷ 0 ∷ 4 ∷ 2 ∷ 1 ∷ 0 ∷ 0 ∷ 0 ∷ 0 ∷ 0 ∷ 0 ∷ 0 ∷ 0 ∷ 0 ∷ 0 ∷ 0 ∷ 0 ∷ 0 ∷ 0 ∷ 0 ∷ 0 ∷ 0 ∷ 0 ∷ 0 ∷ 0 ∷ 0 ∷ 5 ∷ 1 ∷ 4 ∷ 3 ∷ 2 ∷ 1
     ∷ 0 ∷ 3 ∷ 2 ∷ 2 ∷ 0 ∷ 3 ∷ 2 ∷ 3 ∷ 0 ∷ 1 ∷ 1 ∷ 0 ∷ 0 ∷ 3 ∷ 2 ∷ 4 ∷ 1 ∷ 0 ∷ 0 ∷ 0 ∷ 0 ∷ 3 ∷ 0 ∷ 3 ∷ 3 ∷ 0 ∷ 1 ∷ 0 ∷ 3 ∷ 1 ∷ 2 ∷ 0 ∷ 3 ∷ 0 ∷ 3 ∷ 0 ∷ 0 ∷ 0
     ∷ 0 ∷ 0 ∷ 0 ∷ 0 ∷ 0 ∷ 0 ∷ 0 ∷ 0 ∷ 0 ∷ 0 ∷ [])
 
 abbrev table178 : List ℕ
-table178 = bytes (3 ∷ 6 ∷ 3 ∷ 1 ∷ 0 ∷ 4 ∷ 2 ∷ 1 ∷ 0 ∷ 4 ∷ 2 ∷ 3 ∷ 0 ∷ 1 ∷ 1 ∷ 0 ∷ 0 ∷ 0 ∷ 0 ∷ 0 ∷ 0 ∷ 0 ∷ 0 ∷ 0 ∷ 0 ∷ 0 ∷ 0 ∷ 0 ∷ 0 ∷ 5 ∷ 1 ∷ 4 ∷ 3 ∷ 2 ∷ 1
+table178 = bytes (3 ∷ 6 ∷ 2 ∷ 0 ∷ 0 ∷ 4 ∷ 2 ∷ 1 ∷ 0 ∷ 4 ∷ 2 ∷ 3 ∷ 0 ∷ 0 ∷ 0 ∷ 0 ∷ 0 ∷ 0 ∷ 0 ∷ 0 ∷ 0 ∷ 0 ∷ 0 ∷ 0 ∷ 0 ∷ 0 ∷ 0 ∷ 0 ∷ 0 ∷ 5 ∷ 1 ∷ 4 ∷ 3 ∷ 2 ∷ 1
     ∷ 0 ∷ 3 ∷ 2 ∷ 2 ∷ 0 ∷ 3 ∷ 2 ∷ 3 ∷ 0 ∷ 1 ∷ 1 ∷ 0 ∷ 0 ∷ 3 ∷ 2 ∷ 4 ∷ 1 ∷ 0 ∷ 0 ∷ 0 ∷ 0 ∷ 3 ∷ 0 ∷ 3 ∷ 3 ∷ 0 ∷ 1 ∷ 0 ∷ 3 ∷ 1 ∷ 2 ∷ 0 ∷ 3 ∷ 0 ∷ 3 ∷ 0 ∷ 0 ∷ 0
     ∷ 0 ∷ 0 ∷ 0 ∷ 0 ∷ 0 ∷ 0 ∷ 0 ∷ 0 ∷ 0 ∷ 0 ∷ [])
 
 abbrev table179 : List ℕ
-table179 = bytes (3 ∷ 6 ∷ 3 ∷ 1 ∷ 0 ∷ 4 ∷ 2 ∷ 1 ∷ 0 ∷ 4 ∷ 2 ∷ 3 ∷ 0 ∷ 1 ∷ 1 ∷ 0 ∷ 0 ∷ 0 ∷ 0 ∷ 0 ∷ 0 ∷ 0 ∷ 0 ∷ 0 ∷ 0 ∷ 0 ∷ 0 ∷ 0 ∷ 0 ∷ 6 ∷ 1 ∷ 5 ∷ 3 ∷ 2 ∷ 1
-    ∷ 0 ∷ 3 ∷ 2 ∷ 2 ∷ 0 ∷ 3 ∷ 2 ∷ 3 ∷ 0 ∷ 1 ∷ 1 ∷ 0 ∷ 0 ∷ 3 ∷ 2 ∷ 4 ∷ 1 ∷ 3 ∷ 2 ∷ 5 ∷ 1 ∷ 3 ∷ 0 ∷ 3 ∷ 3 ∷ 0 ∷ 1 ∷ 0 ∷ 3 ∷ 1 ∷ 2 ∷ 0 ∷ 3 ∷ 0 ∷ 3 ∷ 0 ∷ 0 ∷ 0
+table179 = bytes (3 ∷ 6 ∷ 3 ∷ 1 ∷ 0 ∷ 4 ∷ 2 ∷ 1 ∷ 0 ∷ 4 ∷ 2 ∷ 3 ∷ 0 ∷ 1 ∷ 1 ∷ 0 ∷ 0 ∷ 0 ∷ 0 ∷ 0 ∷ 0 ∷ 0 ∷ 0 ∷ 0 ∷ 0 ∷ 0 ∷ 0 ∷ 0 ∷ 0 ∷ 5 ∷ 1 ∷ 4 ∷ 3 ∷ 2 ∷ 1
+    ∷ 0 ∷ 3 ∷ 2 ∷ 2 ∷ 0 ∷ 3 ∷ 2 ∷ 3 ∷ 0 ∷ 1 ∷ 1 ∷ 0 ∷ 0 ∷ 3 ∷ 2 ∷ 4 ∷ 1 ∷ 0 ∷ 0 ∷ 0 ∷ 0 ∷ 3 ∷ 0 ∷ 3 ∷ 3 ∷ 0 ∷ 1 ∷ 0 ∷ 3 ∷ 1 ∷ 2 ∷ 0 ∷ 3 ∷ 0 ∷ 3 ∷ 0 ∷ 0 ∷ 0
     ∷ 0 ∷ 0 ∷ 0 ∷ 0 ∷ 0 ∷ 0 ∷ 0 ∷ 0 ∷ 0 ∷ 0 ∷ [])
 
 abbrev table180 : List ℕ
 table180 = bytes (3 ∷ 6 ∷ 3 ∷ 1 ∷ 0 ∷ 4 ∷ 2 ∷ 1 ∷ 0 ∷ 4 ∷ 2 ∷ 3 ∷ 0 ∷ 1 ∷ 1 ∷ 0 ∷ 0 ∷ 0 ∷ 0 ∷ 0 ∷ 0 ∷ 0 ∷ 0 ∷ 0 ∷ 0 ∷ 0 ∷ 0 ∷ 0 ∷ 0 ∷ 6 ∷ 1 ∷ 5 ∷ 3 ∷ 2 ∷ 1
-    ∷ 0 ∷ 3 ∷ 2 ∷ 2 ∷ 0 ∷ 3 ∷ 2 ∷ 3 ∷ 0 ∷ 1 ∷ 1 ∷ 0 ∷ 0 ∷ 3 ∷ 2 ∷ 4 ∷ 1 ∷ 3 ∷ 2 ∷ 5 ∷ 1 ∷ 4 ∷ 0 ∷ 3 ∷ 3 ∷ 0 ∷ 1 ∷ 0 ∷ 3 ∷ 1 ∷ 2 ∷ 0 ∷ 3 ∷ 0 ∷ 3 ∷ 0 ∷ 4 ∷ 1
-    ∷ 2 ∷ 0 ∷ 0 ∷ 0 ∷ 0 ∷ 0 ∷ 0 ∷ 0 ∷ 0 ∷ 0 ∷ [])
+    ∷ 0 ∷ 3 ∷ 2 ∷ 2 ∷ 0 ∷ 3 ∷ 2 ∷ 3 ∷ 0 ∷ 1 ∷ 1 ∷ 0 ∷ 0 ∷ 3 ∷ 2 ∷ 4 ∷ 1 ∷ 3 ∷ 2 ∷ 5 ∷ 1 ∷ 3 ∷ 0 ∷ 3 ∷ 3 ∷ 0 ∷ 1 ∷ 0 ∷ 3 ∷ 1 ∷ 2 ∷ 0 ∷ 3 ∷ 0 ∷ 3 ∷ 0 ∷ 0 ∷ 0
+    ∷ 0 ∷ 0 ∷ 0 ∷ 0 ∷ 0 ∷ 0 ∷ 0 ∷ 0 ∷ 0 ∷ 0 ∷ [])
 
 abbrev table181 : List ℕ
-table181 = bytes (3 ∷ 6 ∷ 4 ∷ 2 ∷ 0 ∷ 4 ∷ 2 ∷ 1 ∷ 0 ∷ 4 ∷ 2 ∷ 3 ∷ 0 ∷ 1 ∷ 1 ∷ 0 ∷ 0 ∷ 1 ∷ 2 ∷ 0 ∷ 0 ∷ 0 ∷ 0 ∷ 0 ∷ 0 ∷ 0 ∷ 0 ∷ 0 ∷ 0 ∷ 6 ∷ 1 ∷ 5 ∷ 3 ∷ 2 ∷ 1
+table181 = bytes (3 ∷ 6 ∷ 3 ∷ 1 ∷ 0 ∷ 4 ∷ 2 ∷ 1 ∷ 0 ∷ 4 ∷ 2 ∷ 3 ∷ 0 ∷ 1 ∷ 1 ∷ 0 ∷ 0 ∷ 0 ∷ 0 ∷ 0 ∷ 0 ∷ 0 ∷ 0 ∷ 0 ∷ 0 ∷ 0 ∷ 0 ∷ 0 ∷ 0 ∷ 6 ∷ 1 ∷ 5 ∷ 3 ∷ 2 ∷ 1
     ∷ 0 ∷ 3 ∷ 2 ∷ 2 ∷ 0 ∷ 3 ∷ 2 ∷ 3 ∷ 0 ∷ 1 ∷ 1 ∷ 0 ∷ 0 ∷ 3 ∷ 2 ∷ 4 ∷ 1 ∷ 3 ∷ 2 ∷ 5 ∷ 1 ∷ 4 ∷ 0 ∷ 3 ∷ 3 ∷ 0 ∷ 1 ∷ 0 ∷ 3 ∷ 1 ∷ 2 ∷ 0 ∷ 3 ∷ 0 ∷ 3 ∷ 0 ∷ 4 ∷ 1
     ∷ 2 ∷ 0 ∷ 0 ∷ 0 ∷ 0 ∷ 0 ∷ 0 ∷ 0 ∷ 0 ∷ 0 ∷ [])
 
 abbrev table182 : List ℕ
 table182 = bytes (3 ∷ 6 ∷ 4 ∷ 2 ∷ 0 ∷ 4 ∷ 2 ∷ 1 ∷ 0 ∷ 4 ∷ 2 ∷ 3 ∷ 0 ∷ 1 ∷ 1 ∷ 0 ∷ 0 ∷ 1 ∷ 2 ∷ 0 ∷ 0 ∷ 0 ∷ 0 ∷ 0 ∷ 0 ∷ 0 ∷ 0 ∷ 0 ∷ 0 ∷ 6 ∷ 1 ∷ 5 ∷ 3 ∷ 2 ∷ 1
-    ∷ 0 ∷ 3 ∷ 2 ∷ 2 ∷ 0 ∷ 3 ∷ 2 ∷ 3 ∷ 0 ∷ 1 ∷ 1 ∷ 0 ∷ 0 ∷ 3 ∷ 2 ∷ 4 ∷ 1 ∷ 3 ∷ 2 ∷ 5 ∷ 1 ∷ 5 ∷ 0 ∷ 4 ∷ 3 ∷ 0 ∷ 1 ∷ 0 ∷ 3 ∷ 1 ∷ 2 ∷ 0 ∷ 3 ∷ 0 ∷ 3 ∷ 0 ∷ 4 ∷ 1
-    ∷ 2 ∷ 0 ∷ 3 ∷ 1 ∷ 4 ∷ 0 ∷ 0 ∷ 0 ∷ 0 ∷ 0 ∷ [])
+    ∷ 0 ∷ 3 ∷ 2 ∷ 2 ∷ 0 ∷ 3 ∷ 2 ∷ 3 ∷ 0 ∷ 1 ∷ 1 ∷ 0 ∷ 0 ∷ 3 ∷ 2 ∷ 4 ∷ 1 ∷ 3 ∷ 2 ∷ 5 ∷ 1 ∷ 4 ∷ 0 ∷ 3 ∷ 3 ∷ 0 ∷ 1 ∷ 0 ∷ 3 ∷ 1 ∷ 2 ∷ 0 ∷ 3 ∷ 0 ∷ 3 ∷ 0 ∷ 4 ∷ 1
+    ∷ 2 ∷ 0 ∷ 0 ∷ 0 ∷ 0 ∷ 0 ∷ 0 ∷ 0 ∷ 0 ∷ 0 ∷ [])
 
 abbrev table183 : List ℕ
-table183 = bytes (3 ∷ 6 ∷ 5 ∷ 2 ∷ 1 ∷ 4 ∷ 2 ∷ 1 ∷ 0 ∷ 4 ∷ 2 ∷ 3 ∷ 0 ∷ 1 ∷ 1 ∷ 0 ∷ 0 ∷ 1 ∷ 2 ∷ 0 ∷ 0 ∷ 3 ∷ 2 ∷ 1 ∷ 2 ∷ 0 ∷ 0 ∷ 0 ∷ 0 ∷ 6 ∷ 1 ∷ 5 ∷ 3 ∷ 2 ∷ 1
+table183 = bytes (3 ∷ 6 ∷ 4 ∷ 2 ∷ 0 ∷ 4 ∷ 2 ∷ 1 ∷ 0 ∷ 4 ∷ 2 ∷ 3 ∷ 0 ∷ 1 ∷ 1 ∷ 0 ∷ 0 ∷ 1 ∷ 2 ∷ 0 ∷ 0 ∷ 0 ∷ 0 ∷ 0 ∷ 0 ∷ 0 ∷ 0 ∷ 0 ∷ 0 ∷ 6 ∷ 1 ∷ 5 ∷ 3 ∷ 2 ∷ 1
     ∷ 0 ∷ 3 ∷ 2 ∷ 2 ∷ 0 ∷ 3 ∷ 2 ∷ 3 ∷ 0 ∷ 1 ∷ 1 ∷ 0 ∷ 0 ∷ 3 ∷ 2 ∷ 4 ∷ 1 ∷ 3 ∷ 2 ∷ 5 ∷ 1 ∷ 5 ∷ 0 ∷ 4 ∷ 3 ∷ 0 ∷ 1 ∷ 0 ∷ 3 ∷ 1 ∷ 2 ∷ 0 ∷ 3 ∷ 0 ∷ 3 ∷ 0 ∷ 4 ∷ 1
     ∷ 2 ∷ 0 ∷ 3 ∷ 1 ∷ 4 ∷ 0 ∷ 0 ∷ 0 ∷ 0 ∷ 0 ∷ [])
 
 abbrev table184 : List ℕ
-table184 = bytes (3 ∷ 6 ∷ 5 ∷ 2 ∷ 1 ∷ 4 ∷ 2 ∷ 1 ∷ 0 ∷ 4 ∷ 2 ∷ 3 ∷ 0 ∷ 1 ∷ 1 ∷ 0 ∷ 0 ∷ 1 ∷ 2 ∷ 0 ∷ 0 ∷ 3 ∷ 2 ∷ 1 ∷ 2 ∷ 0 ∷ 0 ∷ 0 ∷ 0 ∷ 6 ∷ 1 ∷ 5 ∷ 3 ∷ 2 ∷ 1
+table184 = bytes (3 ∷ 6 ∷ 4 ∷ 2 ∷ 0 ∷ 4 ∷ 2 ∷ 1 ∷ 0 ∷ 4 ∷ 2 ∷ 3 ∷ 0 ∷ 1 ∷ 1 ∷ 0 ∷ 0 ∷ 1 ∷ 2 ∷ 0 ∷ 0 ∷ 0 ∷ 0 ∷ 0 ∷ 0 ∷ 0 ∷ 0 ∷ 0 ∷ 0 ∷ 6 ∷ 1 ∷ 5 ∷ 3 ∷ 2 ∷ 1
     ∷ 0 ∷ 3 ∷ 2 ∷ 2 ∷ 0 ∷ 3 ∷ 2 ∷ 3 ∷ 0 ∷ 1 ∷ 1 ∷ 0 ∷ 0 ∷ 3 ∷ 2 ∷ 4 ∷ 1 ∷ 3 ∷ 2 ∷ 5 ∷ 1 ∷ 6 ∷ 0 ∷ 5 ∷ 3 ∷ 0 ∷ 1 ∷ 0 ∷ 3 ∷ 1 ∷ 2 ∷ 0 ∷ 3 ∷ 0 ∷ 3 ∷ 0 ∷ 4 ∷ 1
     ∷ 2 ∷ 0 ∷ 3 ∷ 1 ∷ 4 ∷ 0 ∷ 3 ∷ 1 ∷ 5 ∷ 0 ∷ [])
 
 -- A run from fresh: n = 3, E = 6.
 abbrev run9 : List Script
-run9 = script (lent 332) (accepted (fresh 3 6) 0 [] table0 ∷ accepted (step 2 (send 0)) 8 (1 ∷ 0 ∷ []) table168
-    ∷ accepted (step 2 (send 1)) 8 (2 ∷ 0 ∷ []) table169 ∷ accepted (step 0 (receipt 2 1)) 16 (0 ∷ 0 ∷ 1 ∷ 1 ∷ []) table170
-    ∷ accepted (step 1 (send 2)) 8 (1 ∷ 0 ∷ []) table171 ∷ accepted (step 1 (send 2)) 8 (2 ∷ 0 ∷ []) table172
-    ∷ accepted (step 1 (send 2)) 8 (3 ∷ 0 ∷ []) table173 ∷ accepted (step 2 (send 0)) 8 (3 ∷ 0 ∷ []) table174
-    ∷ accepted (step 1 checkpoint) 4 (1 ∷ []) table175 ∷ refused (step 0 (receipt 2 2)) 16 7 ∷ accepted (step 1 (send 2)) 8 (4 ∷ 1 ∷ []) table176
-    ∷ accepted (step 0 (receipt 2 3)) 16 (0 ∷ 0 ∷ 3 ∷ 2 ∷ []) table177 ∷ accepted (step 0 checkpoint) 4 (1 ∷ []) table178
-    ∷ accepted (step 1 (send 2)) 8 (5 ∷ 1 ∷ []) table179 ∷ refused (step 0 (receipt 2 3)) 16 8
-    ∷ accepted (step 2 (receipt 1 2)) 16 (0 ∷ 0 ∷ 2 ∷ 4 ∷ []) table180 ∷ accepted (step 0 checkpoint) 4 (2 ∷ []) table181
-    ∷ accepted (step 2 (send 1)) 8 (4 ∷ 0 ∷ []) table182 ∷ refused (step 1 (receipt 2 5)) 16 7 ∷ accepted (step 0 (send 2)) 8 (1 ∷ 2 ∷ []) table183
-    ∷ refused (step 1 checkpoint) 4 9 ∷ accepted (step 2 (send 1)) 8 (5 ∷ 0 ∷ []) table184 ∷ refused (step 2 (receipt 1 3)) 16 9
-    ∷ refused (step 1 (send 0)) 8 9 ∷ refused (step 1 (receipt 2 2)) 16 9 ∷ accepted (line 0) 12 (0 ∷ 0 ∷ 0 ∷ []) table184
-    ∷ accepted (line 1) 12 (3 ∷ 4 ∷ 6 ∷ []) table184 ∷ accepted (line 2) 12 (4 ∷ 6 ∷ 6 ∷ []) table184 ∷ accepted (line 3) 12 (5 ∷ 6 ∷ 6 ∷ []) table184
-    ∷ accepted (line 18) 12 (5 ∷ 6 ∷ 6 ∷ []) table184 ∷ accepted (line 4294967295) 12 (5 ∷ 6 ∷ 6 ∷ []) table184
-    ∷ accepted (failed 0) 20 (5 ∷ 6 ∷ 6 ∷ 0 ∷ 0 ∷ []) table184 ∷ accepted (failed 1) 20 (4 ∷ 6 ∷ 6 ∷ 1 ∷ 1 ∷ []) table184
-    ∷ accepted (failed 2) 20 (5 ∷ 4 ∷ 6 ∷ 2 ∷ 1 ∷ []) table184 ∷ accepted (failed 3) 20 (4 ∷ 4 ∷ 6 ∷ 3 ∷ 2 ∷ []) table184
+run9 = script (lent 332) (accepted (fresh 3 6) 0 [] table0 ∷ accepted (step 2 (send 0)) 8 (1 ∷ 0 ∷ []) table169
+    ∷ accepted (step 2 (send 1)) 8 (2 ∷ 0 ∷ []) table170 ∷ accepted (step 0 (receipt 2 1)) 16 (0 ∷ 0 ∷ 1 ∷ 1 ∷ []) table171
+    ∷ accepted (step 1 (send 2)) 8 (1 ∷ 0 ∷ []) table172 ∷ accepted (step 1 (send 2)) 8 (2 ∷ 0 ∷ []) table173
+    ∷ accepted (step 1 (send 2)) 8 (3 ∷ 0 ∷ []) table174 ∷ accepted (step 2 (send 0)) 8 (3 ∷ 0 ∷ []) table175
+    ∷ accepted (step 1 checkpoint) 4 (1 ∷ []) table176 ∷ refused (step 0 (receipt 2 2)) 16 7 ∷ accepted (step 1 (send 2)) 8 (4 ∷ 1 ∷ []) table177
+    ∷ accepted (step 0 (receipt 2 3)) 16 (0 ∷ 0 ∷ 3 ∷ 2 ∷ []) table178 ∷ accepted (step 0 checkpoint) 4 (1 ∷ []) table179
+    ∷ accepted (step 1 (send 2)) 8 (5 ∷ 1 ∷ []) table180 ∷ refused (step 0 (receipt 2 3)) 16 8
+    ∷ accepted (step 2 (receipt 1 2)) 16 (0 ∷ 0 ∷ 2 ∷ 4 ∷ []) table181 ∷ accepted (step 0 checkpoint) 4 (2 ∷ []) table182
+    ∷ accepted (step 2 (send 1)) 8 (4 ∷ 0 ∷ []) table183 ∷ refused (step 1 (receipt 2 5)) 16 7 ∷ refused (step 0 (send 2)) 0 4
+    ∷ refused (step 1 checkpoint) 4 9 ∷ accepted (step 2 (send 1)) 8 (5 ∷ 0 ∷ []) table184 ∷ refused (step 2 (receipt 1 5)) 16 9
+    ∷ refused (step 1 (send 0)) 8 9 ∷ refused (step 2 (receipt 1 3)) 16 9 ∷ accepted (line 0) 12 (0 ∷ 0 ∷ 0 ∷ []) table184
+    ∷ accepted (line 1) 12 (3 ∷ 4 ∷ 6 ∷ []) table184 ∷ accepted (line 2) 12 (4 ∷ 6 ∷ 6 ∷ []) table184 ∷ accepted (line 3) 12 (4 ∷ 6 ∷ 6 ∷ []) table184
+    ∷ accepted (line 18) 12 (4 ∷ 6 ∷ 6 ∷ []) table184 ∷ accepted (line 4294967295) 12 (4 ∷ 6 ∷ 6 ∷ []) table184
+    ∷ accepted (failed 0) 20 (4 ∷ 6 ∷ 6 ∷ 0 ∷ 0 ∷ []) table184 ∷ accepted (failed 1) 20 (4 ∷ 6 ∷ 6 ∷ 1 ∷ 1 ∷ []) table184
+    ∷ accepted (failed 2) 20 (4 ∷ 4 ∷ 6 ∷ 2 ∷ 1 ∷ []) table184 ∷ accepted (failed 3) 20 (4 ∷ 4 ∷ 6 ∷ 3 ∷ 2 ∷ []) table184
     ∷ accepted (failed 4) 20 (0 ∷ 6 ∷ 0 ∷ 5 ∷ 2 ∷ []) table184 ∷ accepted (failed 5) 20 (0 ∷ 6 ∷ 0 ∷ 5 ∷ 2 ∷ []) table184
     ∷ accepted (failed 6) 20 (0 ∷ 4 ∷ 0 ∷ 7 ∷ 3 ∷ []) table184 ∷ accepted (failed 7) 20 (0 ∷ 4 ∷ 0 ∷ 7 ∷ 3 ∷ []) table184 ∷ refused (failed 8) 20 11
     ∷ refused (failed 4294967295) 20 11 ∷ []) ∷ []
@@ -1118,7 +1118,7 @@ unmade0 = script table185 (accepted (line 0) 4 (0 ∷ []) table185 ∷ accepted 
     ∷ accepted (failed 0) 12 (1 ∷ 0 ∷ 0 ∷ []) table185 ∷ accepted (failed 1) 12 (1 ∷ 1 ∷ 1 ∷ []) table185 ∷ refused (failed 2) 12 11
     ∷ refused (failed 4294967295) 12 11 ∷ refused (step 0 (send 0)) 8 6 ∷ refused (step 0 (send 0)) 8 6 ∷ refused (step 0 (send 0)) 8 6
     ∷ refused (step 1 checkpoint) 4 5 ∷ refused (step 0 (receipt 0 2)) 16 6 ∷ refused (step 0 checkpoint) 4 9 ∷ refused (step 0 checkpoint) 4 9
-    ∷ refused (step 0 (send 0)) 8 6 ∷ refused (step 0 (send 0)) 1 4 ∷ refused (step 0 (send 0)) 8 6 ∷ []) ∷ []
+    ∷ refused (step 0 (send 0)) 8 6 ∷ refused (step 0 (send 0)) 7 4 ∷ refused (step 0 (send 0)) 8 6 ∷ []) ∷ []
 
 pub unmade0-agree : Agree unmade0
 unfolding freshOn stepOn lineOn failedOn resendOn layout decoded wellLaid word putWord putWords failureAnswer failureLine rounds round ones onesIn inTransit
@@ -1179,9 +1179,9 @@ unmade3 = script table191 (accepted (line 0) 8 (0 ∷ 0 ∷ []) table191 ∷ acc
     ∷ accepted (line 4) 8 (2 ∷ 1 ∷ []) table191 ∷ accepted (line 5) 8 (2 ∷ 1 ∷ []) table191 ∷ accepted (line 4294967295) 8 (2 ∷ 1 ∷ []) table191
     ∷ accepted (failed 0) 16 (0 ∷ 1 ∷ 1 ∷ 1 ∷ []) table191 ∷ accepted (failed 1) 16 (0 ∷ 1 ∷ 1 ∷ 1 ∷ []) table191
     ∷ accepted (failed 2) 16 (0 ∷ 1 ∷ 3 ∷ 2 ∷ []) table191 ∷ accepted (failed 3) 16 (0 ∷ 1 ∷ 3 ∷ 2 ∷ []) table191 ∷ refused (failed 4) 16 11
-    ∷ refused (failed 4294967295) 16 11 ∷ refused (step 0 (send 1)) 8 9 ∷ refused (step 1 (receipt 0 1)) 9 4
-    ∷ accepted (step 1 (receipt 0 1)) 16 (0 ∷ 0 ∷ 1 ∷ 2 ∷ []) table192 ∷ refused (step 1 (send 0)) 1 4 ∷ refused (step 0 (send 1)) 8 9
-    ∷ refused (step 0 checkpoint) 4 9 ∷ refused (step 1 (send 0)) 8 9 ∷ refused (step 1 (receipt 0 1)) 16 8 ∷ refused (step 1 (send 1)) 72 4
+    ∷ refused (failed 4294967295) 16 11 ∷ refused (step 0 (send 1)) 8 9 ∷ refused (step 1 (receipt 0 1)) 72 4
+    ∷ accepted (step 1 (receipt 0 1)) 16 (0 ∷ 0 ∷ 1 ∷ 2 ∷ []) table192 ∷ refused (step 1 (send 0)) 0 4 ∷ refused (step 0 (send 1)) 8 9
+    ∷ refused (step 0 checkpoint) 4 9 ∷ refused (step 1 (send 0)) 8 9 ∷ refused (step 1 (receipt 0 1)) 16 8 ∷ refused (step 1 (send 1)) 0 4
     ∷ refused (step 0 (send 1)) 8 9 ∷ []) ∷ []
 
 pub unmade3-agree : Agree unmade3
@@ -1318,7 +1318,7 @@ unmade8 = script table203 (accepted (line 0) 12 (0 ∷ 0 ∷ 0 ∷ []) table203 
     ∷ accepted (failed 7) 20 (0 ∷ 0 ∷ 1 ∷ 7 ∷ 3 ∷ []) table203 ∷ refused (failed 8) 20 11 ∷ refused (failed 4294967295) 20 11
     ∷ accepted (step 0 (send 1)) 8 (1 ∷ 0 ∷ []) table204 ∷ accepted (step 1 (receipt 0 1)) 16 (0 ∷ 0 ∷ 1 ∷ 1 ∷ []) table205
     ∷ refused (step 1 (receipt 0 1)) 16 8 ∷ accepted (step 1 (send 0)) 8 (1 ∷ 0 ∷ []) table206 ∷ refused (step 1 (receipt 0 0)) 16 7
-    ∷ refused (step 1 (receipt 0 1)) 12 4 ∷ accepted (step 0 (receipt 1 1)) 16 (0 ∷ 0 ∷ 2 ∷ 2 ∷ []) table207 ∷ refused (step 1 checkpoint) 4 9
+    ∷ refused (step 1 (receipt 0 1)) 0 4 ∷ accepted (step 0 (receipt 1 1)) 16 (0 ∷ 0 ∷ 2 ∷ 2 ∷ []) table207 ∷ refused (step 1 checkpoint) 4 9
     ∷ accepted (step 2 checkpoint) 4 (1 ∷ []) table208 ∷ refused (step 2 checkpoint) 4 9 ∷ []) ∷ []
 
 pub unmade8-agree : Agree unmade8
@@ -1342,8 +1342,8 @@ unmade9 = script table209 (accepted (line 0) 12 (0 ∷ 0 ∷ 0 ∷ []) table209 
     ∷ accepted (failed 3) 20 (0 ∷ 3 ∷ 1 ∷ 7 ∷ 3 ∷ []) table209 ∷ accepted (failed 4) 20 (0 ∷ 3 ∷ 1 ∷ 5 ∷ 2 ∷ []) table209
     ∷ accepted (failed 5) 20 (0 ∷ 3 ∷ 1 ∷ 5 ∷ 2 ∷ []) table209 ∷ accepted (failed 6) 20 (0 ∷ 3 ∷ 1 ∷ 7 ∷ 3 ∷ []) table209
     ∷ accepted (failed 7) 20 (0 ∷ 3 ∷ 1 ∷ 7 ∷ 3 ∷ []) table209 ∷ refused (failed 8) 20 11 ∷ refused (failed 4294967295) 20 11 ∷ refused (step 2 (send 0)) 8 9
-    ∷ refused (step 2 checkpoint) 4 9 ∷ accepted (step 0 (send 2)) 8 (1 ∷ 0 ∷ []) table210 ∷ refused (step 2 (send 1)) 8 9 ∷ refused (step 1 (send 0)) 0 4
-    ∷ refused (step 2 (receipt 0 1)) 9 4 ∷ refused (step 2 (receipt 0 1)) 16 9 ∷ refused (step 2 (receipt 0 1)) 16 9 ∷ refused (step 1 (send 2)) 7 4
+    ∷ refused (step 2 checkpoint) 4 9 ∷ accepted (step 0 (send 2)) 8 (1 ∷ 0 ∷ []) table210 ∷ refused (step 2 (send 1)) 8 9 ∷ refused (step 1 (send 0)) 4 4
+    ∷ refused (step 2 (receipt 0 1)) 7 4 ∷ refused (step 2 (receipt 0 1)) 16 9 ∷ refused (step 2 (receipt 0 1)) 16 9 ∷ refused (step 1 (send 2)) 8 9
     ∷ refused (step 1 (receipt 0 4)) 16 7 ∷ []) ∷ []
 
 pub unmade9-agree : Agree unmade9
@@ -1373,7 +1373,7 @@ unmade10 = script table211 (accepted (line 0) 12 (0 ∷ 0 ∷ 0 ∷ []) table211
     ∷ accepted (failed 7) 20 (1 ∷ 4 ∷ 0 ∷ 7 ∷ 3 ∷ []) table211 ∷ refused (failed 8) 20 11 ∷ refused (failed 4294967295) 20 11
     ∷ accepted (step 2 checkpoint) 4 (1 ∷ []) table212 ∷ refused (step 1 checkpoint) 4 9 ∷ refused (step 0 (receipt 2 4)) 16 7
     ∷ refused (step 2 (receipt 1 1)) 16 9 ∷ refused (step 2 (receipt 0 1)) 16 9 ∷ refused (step 1 checkpoint) 4 9
-    ∷ accepted (step 0 (send 2)) 8 (3 ∷ 12 ∷ []) table213 ∷ refused (step 1 (receipt 2 1)) 17 4 ∷ refused (step 1 (receipt 0 2)) 16 9
+    ∷ accepted (step 0 (send 2)) 8 (3 ∷ 12 ∷ []) table213 ∷ refused (step 1 (receipt 2 1)) 0 4 ∷ refused (step 1 (receipt 0 2)) 16 9
     ∷ refused (step 1 checkpoint) 4 9 ∷ []) ∷ []
 
 pub unmade10-agree : Agree unmade10
@@ -1429,7 +1429,7 @@ unmade12 = script table218 (accepted (line 0) 12 (0 ∷ 0 ∷ 0 ∷ []) table218
     ∷ accepted (failed 7) 20 (5 ∷ 0 ∷ 0 ∷ 7 ∷ 3 ∷ []) table218 ∷ refused (failed 8) 20 11 ∷ refused (failed 4294967295) 20 11
     ∷ refused (step 0 (receipt 2 1)) 16 9 ∷ refused (step 1 (send 0)) 8 9 ∷ refused (step 0 checkpoint) 4 9 ∷ refused (step 3718591026 (send 1)) 8 5
     ∷ refused (step 1 (send 0)) 8 9 ∷ refused (step 1 checkpoint) 4 9 ∷ refused (step 0 (receipt 2 1)) 16 9 ∷ refused (step 0 (receipt 1 4)) 16 7
-    ∷ refused (step 2 (receipt 0 0)) 0 4 ∷ refused (step 1 (send 0)) 8 9 ∷ []) ∷ []
+    ∷ refused (step 2 (receipt 0 0)) 20 4 ∷ refused (step 1 (send 0)) 8 9 ∷ []) ∷ []
 
 pub unmade12-agree : Agree unmade12
 unfolding freshOn stepOn lineOn failedOn resendOn layout decoded wellLaid word putWord putWords failureAnswer failureLine rounds round ones onesIn inTransit
@@ -1646,21 +1646,21 @@ resendMade = script table107 (resend (0 ∷ []) [] 4 0 (0 ∷ []) ∷ resend (0 
     ∷ resend (0 ∷ 0 ∷ 0 ∷ []) [] 3 13 [] ∷ resend (1 ∷ 3 ∷ 3 ∷ []) [] 16 0 (1 ∷ 0 ∷ 1 ∷ 1 ∷ []) ∷ resend (1 ∷ 3 ∷ 3 ∷ []) [] 15 13 []
     ∷ resend (1 ∷ 3 ∷ 3 ∷ []) [] 17 0 (1 ∷ 0 ∷ 1 ∷ 1 ∷ []) ∷ resend (1 ∷ 3 ∷ 0 ∷ []) [] 16 0 (1 ∷ 0 ∷ 1 ∷ 1 ∷ [])
     ∷ resend (1 ∷ 3 ∷ 3 ∷ []) [] 16 0 (1 ∷ 0 ∷ 1 ∷ 1 ∷ []) ∷ resend (1 ∷ 3 ∷ 3 ∷ []) [] 17 0 (1 ∷ 0 ∷ 1 ∷ 1 ∷ []) ∷ resend (0 ∷ 0 ∷ 0 ∷ []) [] 4 0 (0 ∷ [])
-    ∷ resend (0 ∷ 0 ∷ 0 ∷ []) [] 104 0 (0 ∷ []) ∷ resend (2 ∷ 3 ∷ 3 ∷ []) [] 4 12 [] ∷ []) ∷ script table167 (resend (0 ∷ 0 ∷ 0 ∷ []) [] 4 0 (0 ∷ [])
-    ∷ resend (0 ∷ 0 ∷ 0 ∷ []) [] 3 13 [] ∷ resend (3 ∷ 4 ∷ 4 ∷ []) [] 28 0 (2 ∷ 0 ∷ 1 ∷ 2 ∷ 0 ∷ 2 ∷ 1 ∷ []) ∷ resend (3 ∷ 4 ∷ 4 ∷ []) [] 27 13 []
-    ∷ resend (3 ∷ 4 ∷ 4 ∷ []) [] 29 0 (2 ∷ 0 ∷ 1 ∷ 2 ∷ 0 ∷ 2 ∷ 1 ∷ [])
-    ∷ resend (3 ∷ 4 ∷ 0 ∷ []) [] 52 0 (4 ∷ 0 ∷ 1 ∷ 2 ∷ 0 ∷ 2 ∷ 1 ∷ 0 ∷ 3 ∷ 2 ∷ 1 ∷ 1 ∷ 2 ∷ [])
-    ∷ resend (3 ∷ 4 ∷ 2 ∷ []) [] 40 0 (3 ∷ 0 ∷ 1 ∷ 2 ∷ 0 ∷ 2 ∷ 1 ∷ 0 ∷ 3 ∷ 2 ∷ []) ∷ resend (3 ∷ 4 ∷ 2 ∷ []) [] 36 13 []
-    ∷ resend (3 ∷ 4 ∷ 4 ∷ []) [] 28 0 (2 ∷ 0 ∷ 1 ∷ 2 ∷ 0 ∷ 2 ∷ 1 ∷ []) ∷ resend (3 ∷ 4 ∷ 4 ∷ []) [] 27 13 [] ∷ resend (3 ∷ 4 ∷ 5 ∷ []) [] 4 12 [] ∷ [])
+    ∷ resend (0 ∷ 0 ∷ 0 ∷ []) [] 104 0 (0 ∷ []) ∷ resend (2 ∷ 3 ∷ 3 ∷ []) [] 4 12 [] ∷ []) ∷ script table168 (resend (0 ∷ 0 ∷ 0 ∷ []) [] 4 0 (0 ∷ [])
+    ∷ resend (0 ∷ 0 ∷ 0 ∷ []) [] 3 13 [] ∷ resend (4 ∷ 4 ∷ 4 ∷ []) [] 28 0 (2 ∷ 0 ∷ 1 ∷ 2 ∷ 0 ∷ 2 ∷ 1 ∷ []) ∷ resend (4 ∷ 4 ∷ 4 ∷ []) [] 27 13 []
+    ∷ resend (4 ∷ 4 ∷ 4 ∷ []) [] 29 0 (2 ∷ 0 ∷ 1 ∷ 2 ∷ 0 ∷ 2 ∷ 1 ∷ [])
+    ∷ resend (4 ∷ 4 ∷ 0 ∷ []) [] 52 0 (4 ∷ 0 ∷ 1 ∷ 2 ∷ 0 ∷ 2 ∷ 1 ∷ 0 ∷ 3 ∷ 2 ∷ 1 ∷ 1 ∷ 2 ∷ [])
+    ∷ resend (4 ∷ 4 ∷ 2 ∷ []) [] 40 0 (3 ∷ 0 ∷ 1 ∷ 2 ∷ 0 ∷ 2 ∷ 1 ∷ 0 ∷ 3 ∷ 2 ∷ []) ∷ resend (4 ∷ 4 ∷ 2 ∷ []) [] 36 13 []
+    ∷ resend (4 ∷ 4 ∷ 4 ∷ []) [] 28 0 (2 ∷ 0 ∷ 1 ∷ 2 ∷ 0 ∷ 2 ∷ 1 ∷ []) ∷ resend (4 ∷ 4 ∷ 4 ∷ []) [] 27 13 [] ∷ resend (4 ∷ 4 ∷ 5 ∷ []) [] 4 12 [] ∷ [])
     ∷ script table184 (resend (0 ∷ 0 ∷ 0 ∷ []) [] 4 0 (0 ∷ []) ∷ resend (0 ∷ 0 ∷ 0 ∷ []) [] 3 13 []
-    ∷ resend (5 ∷ 6 ∷ 6 ∷ []) [] 100 0 (8 ∷ 0 ∷ 1 ∷ 2 ∷ 1 ∷ 1 ∷ 2 ∷ 1 ∷ 3 ∷ 2 ∷ 1 ∷ 4 ∷ 2 ∷ 1 ∷ 5 ∷ 2 ∷ 2 ∷ 2 ∷ 1 ∷ 2 ∷ 4 ∷ 1 ∷ 2 ∷ 5 ∷ 1 ∷ [])
-    ∷ resend (5 ∷ 6 ∷ 6 ∷ []) [] 99 13 []
-    ∷ resend (5 ∷ 6 ∷ 6 ∷ []) [] 101 0 (8 ∷ 0 ∷ 1 ∷ 2 ∷ 1 ∷ 1 ∷ 2 ∷ 1 ∷ 3 ∷ 2 ∷ 1 ∷ 4 ∷ 2 ∷ 1 ∷ 5 ∷ 2 ∷ 2 ∷ 2 ∷ 1 ∷ 2 ∷ 4 ∷ 1 ∷ 2 ∷ 5 ∷ 1 ∷ [])
-    ∷ resend (5 ∷ 6 ∷ 0 ∷ []) [] 76 0 (6 ∷ 0 ∷ 1 ∷ 2 ∷ 1 ∷ 1 ∷ 2 ∷ 1 ∷ 2 ∷ 2 ∷ 1 ∷ 3 ∷ 2 ∷ 1 ∷ 4 ∷ 2 ∷ 1 ∷ 5 ∷ 2 ∷ [])
-    ∷ resend (1 ∷ 4 ∷ 2 ∷ []) [] 52 0 (4 ∷ 1 ∷ 1 ∷ 2 ∷ 1 ∷ 2 ∷ 2 ∷ 1 ∷ 3 ∷ 2 ∷ 2 ∷ 2 ∷ 1 ∷ [])
-    ∷ resend (1 ∷ 4 ∷ 2 ∷ []) [] 53 0 (4 ∷ 1 ∷ 1 ∷ 2 ∷ 1 ∷ 2 ∷ 2 ∷ 1 ∷ 3 ∷ 2 ∷ 2 ∷ 2 ∷ 1 ∷ [])
-    ∷ resend (3 ∷ 6 ∷ 0 ∷ []) [] 64 0 (5 ∷ 1 ∷ 1 ∷ 2 ∷ 1 ∷ 2 ∷ 2 ∷ 1 ∷ 3 ∷ 2 ∷ 1 ∷ 4 ∷ 2 ∷ 1 ∷ 5 ∷ 2 ∷ [])
-    ∷ resend (3 ∷ 6 ∷ 0 ∷ []) [] 164 0 (5 ∷ 1 ∷ 1 ∷ 2 ∷ 1 ∷ 2 ∷ 2 ∷ 1 ∷ 3 ∷ 2 ∷ 1 ∷ 4 ∷ 2 ∷ 1 ∷ 5 ∷ 2 ∷ []) ∷ resend (6 ∷ 6 ∷ 6 ∷ []) [] 4 12 [] ∷ []) ∷ []
+    ∷ resend (4 ∷ 6 ∷ 6 ∷ []) [] 88 0 (7 ∷ 1 ∷ 1 ∷ 2 ∷ 1 ∷ 3 ∷ 2 ∷ 1 ∷ 4 ∷ 2 ∷ 1 ∷ 5 ∷ 2 ∷ 2 ∷ 2 ∷ 1 ∷ 2 ∷ 4 ∷ 1 ∷ 2 ∷ 5 ∷ 1 ∷ [])
+    ∷ resend (4 ∷ 6 ∷ 6 ∷ []) [] 87 13 []
+    ∷ resend (4 ∷ 6 ∷ 6 ∷ []) [] 89 0 (7 ∷ 1 ∷ 1 ∷ 2 ∷ 1 ∷ 3 ∷ 2 ∷ 1 ∷ 4 ∷ 2 ∷ 1 ∷ 5 ∷ 2 ∷ 2 ∷ 2 ∷ 1 ∷ 2 ∷ 4 ∷ 1 ∷ 2 ∷ 5 ∷ 1 ∷ [])
+    ∷ resend (4 ∷ 6 ∷ 0 ∷ []) [] 64 0 (5 ∷ 1 ∷ 1 ∷ 2 ∷ 1 ∷ 2 ∷ 2 ∷ 1 ∷ 3 ∷ 2 ∷ 1 ∷ 4 ∷ 2 ∷ 1 ∷ 5 ∷ 2 ∷ [])
+    ∷ resend (3 ∷ 4 ∷ 2 ∷ []) [] 52 0 (4 ∷ 1 ∷ 1 ∷ 2 ∷ 1 ∷ 2 ∷ 2 ∷ 1 ∷ 3 ∷ 2 ∷ 2 ∷ 2 ∷ 1 ∷ [])
+    ∷ resend (3 ∷ 4 ∷ 2 ∷ []) [] 53 0 (4 ∷ 1 ∷ 1 ∷ 2 ∷ 1 ∷ 2 ∷ 2 ∷ 1 ∷ 3 ∷ 2 ∷ 2 ∷ 2 ∷ 1 ∷ [])
+    ∷ resend (0 ∷ 6 ∷ 0 ∷ []) [] 64 0 (5 ∷ 1 ∷ 1 ∷ 2 ∷ 1 ∷ 2 ∷ 2 ∷ 1 ∷ 3 ∷ 2 ∷ 1 ∷ 4 ∷ 2 ∷ 1 ∷ 5 ∷ 2 ∷ [])
+    ∷ resend (0 ∷ 6 ∷ 0 ∷ []) [] 164 0 (5 ∷ 1 ∷ 1 ∷ 2 ∷ 1 ∷ 2 ∷ 2 ∷ 1 ∷ 3 ∷ 2 ∷ 1 ∷ 4 ∷ 2 ∷ 1 ∷ 5 ∷ 2 ∷ []) ∷ resend (5 ∷ 6 ∷ 6 ∷ []) [] 4 12 [] ∷ []) ∷ []
 
 pub resendMade-agree : Agree resendMade
 unfolding freshOn stepOn lineOn failedOn resendOn layout decoded wellLaid word putWord putWords failureAnswer failureLine rounds round ones onesIn inTransit

@@ -1,5 +1,6 @@
 //! Document 01's own cases and its table of checks. Each number is asserted as the document has it, and every call is
-//! made beside the reference engine. Tables have document 02's fourth word; tests/carried.rs has its clauses.
+//! made beside the reference engine. Tables have document 02's fourth word, and receipts its places: tests/carried.rs and
+//! tests/places.rs have more of these.
 use beside::{pair_of_words, Origin, Pair};
 use cases::chosen::{count_into_next_section, full, one_free_at, ONE_OF_EACH};
 use cases::table::{
@@ -26,10 +27,10 @@ fn worked_controller() -> Pair {
             (Checkpoint { p: 0 }, &[1]),
             (Send { p: 0, q: 1 }, &[1, 1]),
             (Send { p: 1, q: 2 }, &[1, 0]),
-            (Receipt { p: 1, q: 0, k: 1 }, &[1, 1]),
+            (Receipt { p: 1, q: 0, k: 1 }, &[1, 1, 2, 3]),
             (Send { p: 1, q: 2 }, &[2, 1]),
-            (Receipt { p: 2, q: 1, k: 2 }, &[1, 1]),
-            (Receipt { p: 2, q: 1, k: 1 }, &[0, 0]),
+            (Receipt { p: 2, q: 1, k: 2 }, &[1, 1, 4, 2]),
+            (Receipt { p: 2, q: 1, k: 1 }, &[0, 0, 1, 3]),
         ],
     );
     pair
@@ -75,7 +76,7 @@ fn the_text_listing() {
         &[
             (Checkpoint { p: 0 }, &[1]),
             (Send { p: 0, q: 1 }, &[1, 1]),
-            (Receipt { p: 1, q: 0, k: 1 }, &[1, 1]),
+            (Receipt { p: 1, q: 0, k: 1 }, &[1, 1, 2, 2]),
             (Line { number: 1 }, &[1, 1]),
             (Failed { mask: 1 }, &[1, 1, 3, 2]),
         ],
@@ -218,8 +219,8 @@ fn both_of_two_overtaking_messages_are_received() {
             (Send { p: 0, q: 1 }, &[1, 0]),
             (Checkpoint { p: 0 }, &[1]),
             (Send { p: 0, q: 1 }, &[2, 1]),
-            (Receipt { p: 1, q: 0, k: 2 }, &[1, 1]),
-            (Receipt { p: 1, q: 0, k: 1 }, &[0, 0]),
+            (Receipt { p: 1, q: 0, k: 2 }, &[1, 1, 3, 2]),
+            (Receipt { p: 1, q: 0, k: 1 }, &[0, 0, 1, 3]),
         ],
     );
     assert_eq!(pair.exact(Receipt { p: 1, q: 0, k: 2 }).0, 8);
@@ -236,10 +237,10 @@ fn an_equal_number_forces_nothing() {
             (Checkpoint { p: 0 }, &[1]),
             (Checkpoint { p: 1 }, &[1]),
             (Send { p: 0, q: 1 }, &[1, 1]),
-            (Receipt { p: 1, q: 0, k: 1 }, &[1, 0]),
+            (Receipt { p: 1, q: 0, k: 1 }, &[1, 0, 2, 2]),
             (Checkpoint { p: 0 }, &[2]),
             (Send { p: 0, q: 1 }, &[2, 2]),
-            (Receipt { p: 1, q: 0, k: 2 }, &[2, 1]),
+            (Receipt { p: 1, q: 0, k: 2 }, &[2, 1, 4, 4]),
         ],
     );
     assert_eq!(records(pair.table())[1], [[1, 1, 0, 0], [4, 0, 1, 1], [2, 2, 0, 0], [4, 0, 2, 2]]);
@@ -293,20 +294,20 @@ fn the_first_row_met_is_returned() {
         check(&full, Checkpoint { p }, 4, 5);
         for q in [0, 3, p] {
             check(&full, Send { p, q }, 8, 5);
-            check(&full, Receipt { p, q, k: 0 }, 8, 5);
+            check(&full, Receipt { p, q, k: 0 }, 16, 5);
         }
     }
     for q in [0, 3, 4, 16, 1 << 31, MAX] {
         check(&full, Send { p: 0, q }, 8, 6);
-        check(&full, Receipt { p: 0, q, k: 0 }, 8, 6);
+        check(&full, Receipt { p: 0, q, k: 0 }, 16, 6);
     }
     // 0 and 5 and more are no send; 4 is above the send count; 2 is a send to process 2. Process 0 has receipts of
     // (1, 2) and (1, 4), and no record free.
     for k in [0, 2, 4, 5, 1 << 31, MAX] {
-        check(&full, Receipt { p: 0, q: 1, k }, 8, 7);
+        check(&full, Receipt { p: 0, q: 1, k }, 16, 7);
     }
-    check(&full, Receipt { p: 0, q: 1, k: 1 }, 8, 8);
-    check(&full, Receipt { p: 0, q: 1, k: 3 }, 8, 9);
+    check(&full, Receipt { p: 0, q: 1, k: 1 }, 16, 8);
+    check(&full, Receipt { p: 0, q: 1, k: 3 }, 16, 9);
     check(&full, Send { p: 0, q: 1 }, 8, 9);
     check(&full, Checkpoint { p: 0 }, 4, 9);
     check(&one_free_at(12), Checkpoint { p: 0 }, 4, 10);
@@ -317,12 +318,12 @@ fn the_first_row_met_is_returned() {
     // Nothing is met any more.
     check(&one_free_at(11), Checkpoint { p: 0 }, 4, 0);
     check(&one_free_at(12), Send { p: 0, q: 1 }, 8, 0);
-    check(&one_free_at(12), Receipt { p: 0, q: 1, k: 3 }, 8, 0);
+    check(&one_free_at(12), Receipt { p: 0, q: 1, k: 3 }, 16, 0);
     check(&full, Line { number: MAX }, 12, 0);
     check(&full, Failed { mask: 7 }, 20, 0);
     // (1, 3) carries 2: at number 2 it takes the one record that is free, at number 1 it would force.
-    check(&one_free_at(2), Receipt { p: 0, q: 1, k: 3 }, 8, 0);
-    check(&one_free_at(1), Receipt { p: 0, q: 1, k: 3 }, 8, 9);
+    check(&one_free_at(2), Receipt { p: 0, q: 1, k: 3 }, 16, 0);
+    check(&one_free_at(1), Receipt { p: 0, q: 1, k: 3 }, 16, 9);
 }
 
 #[test]

@@ -31,7 +31,7 @@ fn ended<T: AsRef<[u8]>>(lines: &[T]) -> Vec<u8> {
     lines.iter().flat_map(|line| [line.as_ref(), END].concat()).collect()
 }
 
-// ---- document 01
+// ---- document 01, with document 02's places
 
 const LISTING: &[u8] = b"fresh,2,4,\r\n\
     checkpoint,0,,\r\n\
@@ -43,7 +43,7 @@ const LISTING: &[u8] = b"fresh,2,4,\r\n\
 const LISTING_ANSWERS: &[u8] = b"0,,,,\r\n\
     0,1,,,\r\n\
     0,1,1,,\r\n\
-    0,1,1,,\r\n\
+    0,1,1,2,2\r\n\
     0,1,1,,\r\n\
     0,1,1,3,2\r\n";
 
@@ -59,10 +59,10 @@ fn the_worked_controller_with_its_lines_and_refused_calls() {
         ("checkpoint,0,,", "0,1,,,,"),
         ("send,0,1,", "0,1,1,,,"),
         ("send,1,2,", "0,1,0,,,"),
-        ("receipt,1,0,1", "0,1,1,,,"),
+        ("receipt,1,0,1", "0,1,1,2,3,"),
         ("send,1,2,", "0,2,1,,,"),
-        ("receipt,2,1,2", "0,1,1,,,"),
-        ("receipt,2,1,1", "0,0,0,,,"),
+        ("receipt,2,1,2", "0,1,1,4,2,"),
+        ("receipt,2,1,1", "0,0,0,1,3,"),
         ("line,0,,", "0,0,0,0,,"),     // P1
         ("line,1,,", "0,1,2,1,,"),     // P2
         ("line,2,,", "0,2,4,3,,"),     // P3
@@ -447,7 +447,7 @@ fn a_later_fresh_gives_99_and_changes_nothing() {
             ("send,0,1,", "0,1,1,,"),
             (line, "99,,,,"),
             (line, "99,,,,"),
-            ("receipt,1,0,1", "0,1,1,,"),
+            ("receipt,1,0,1", "0,1,1,2,2"),
             (line, "99,,,,"),
             ("line,1,,", "0,1,1,,"),
             ("line,2,,", "0,2,2,,"),
@@ -596,7 +596,7 @@ fn numbers_have_one_to_ten_digits_and_32_bits() {
         ("fresh,0000000002,0000000004,", "0,,,,"),
         ("checkpoint,0000000000,,", "0,1,,,"),
         ("send,00,01,", "0,1,1,,"),
-        ("receipt,0000000001,0000000000,0000000001", "0,1,1,,"),
+        ("receipt,0000000001,0000000000,0000000001", "0,1,1,2,2"),
         ("line,0,,", "0,0,0,,"),
         ("line,0000000000,,", "0,0,0,,"),
         ("line,00000000000,,", "99,,,,"),
@@ -643,7 +643,7 @@ fn every_number_that_the_program_can_write() {
         ("send,0,1,", "0,1,1,,"),
         ("checkpoint,0,,", "9,,,,"),
         ("send,0,1,", "9,,,,"),
-        ("receipt,1,0,1", "0,1,1,,"),
+        ("receipt,1,0,1", "0,1,1,2,2"),
         ("receipt,1,0,1", "8,,,,"),
         ("failed,4,,", "11,,,,"),
         ("fresh,2,2,", "99,,,,"),
@@ -696,7 +696,7 @@ fn numbers_up_to_four_digits_are_written_in_decimal() {
     let mut number = 0;
     for p in 0..8 {
         if p > 0 {
-            add(format!("receipt,{p},{},1", p - 1), &[number, 1]);
+            add(format!("receipt,{p},{},1", p - 1), &[number, 1, 256, 2]);
         }
         for _ in 0..if p == 0 { 255 } else { 253 } {
             number += 1;
@@ -928,7 +928,7 @@ const FILE_ANSWERS: &[u8] = b"0,,,,\r\n\
     0,1,,,\r\n\
     0,1,1,,\r\n\
     99,,,,\r\n\
-    0,1,1,,\r\n\
+    0,1,1,2,2\r\n\
     99,,,,\r\n\
     99,,,,\r\n\
     99,,,,\r\n\

@@ -139,6 +139,7 @@ pub fn area_length(rng: &mut Rng, exact: usize) -> usize {
             7,
             8,
             9,
+            16,
             exact + 1,
             exact + 4,
             exact.saturating_sub(1),
