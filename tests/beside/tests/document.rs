@@ -109,7 +109,7 @@ fn nine_when_too_few_records_are_free() {
     accept(&mut pair, &[(Send { p: 1, q: 0 }, &[1, 0])]);
     assert_eq!(pair.exact(Receipt { p: 1, q: 0, k: 1 }).0, 9);
     // Without that send two records are free, which is enough to force.
-    accept(&mut unsent, &[(Receipt { p: 1, q: 0, k: 1 }, &[1, 1])]);
+    accept(&mut unsent, &[(Receipt { p: 1, q: 0, k: 1 }, &[1, 1, 2, 2])]);
     // One free record is enough where nothing is forced.
     let mut pair = Pair::fresh(2, 2, ORIGIN);
     accept(
@@ -117,7 +117,7 @@ fn nine_when_too_few_records_are_free() {
         &[
             (Send { p: 0, q: 1 }, &[1, 0]),
             (Send { p: 1, q: 0 }, &[1, 0]),
-            (Receipt { p: 1, q: 0, k: 1 }, &[0, 0]),
+            (Receipt { p: 1, q: 0, k: 1 }, &[0, 0, 1, 2]),
             (Checkpoint { p: 0 }, &[1]),
         ],
     );
