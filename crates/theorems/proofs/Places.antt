@@ -1,9 +1,9 @@
 -- Slip 4: the places that a receipt answers, the theorem stated in specs/Places.antt.
-use mathlib.Core.Path.{_≡_, refl, sym, ap, _∙_}
+use mathlib.Core.Path.{_≡_, refl, sym, ap, ap₂, _∙_}
 use mathlib.Core.Bool.{Bool, true, false, cond}
 use mathlib.Core.List.{List, [], _∷_, _++_}
 use mathlib.Core.Option.{some, Option·none-ne-some, Option·some-injective}
-use Prim.Native.Nat.{ℕ, suc, _<_}
+use Prim.Native.Nat.{ℕ, suc, _+_, _<_}
 use native.Mathlib.Omega.{arith}
 use lib.Dec.{ltb, eqb}
 use lib.ListN.{length}
@@ -15,7 +15,7 @@ use Rattle.rules.specs.Table.{layout, decoded}
 use Rattle.rules.specs.Steps.{receipt, grown, stepped}
 use Rattle.rules.specs.Lines.{upto}
 use Rattle.rules.specs.Calls.{first, tableRows, stepRows, answer, stepOn}
-use Rattle.theorems.specs.Places.{recordAt, SendAt, Places}
+use Rattle.theorems.specs.Places.{recordAt, SendAt, Places, OneAnswer}
 use Rattle.basics.proofs.Booleans.{Test, passes, fails, test}
 use Rattle.basics.proofs.Older.{Older, same, newer, older-length}
 use Rattle.records.proofs.Histories.{of-send-at, carried-at, Held, holds-held, send-of}
@@ -120,3 +120,12 @@ places t a p q k z =
       last = receipt-place h q k c;
       behind = now ∙ rw (one-is (ltb (number h) c));
     }
+
+pub one-answer : OneAnswer
+one-answer t a p q k s A B =
+    let sent-at : A .sentAt ≡ B .sentAt = B .only p (A .sentAt) (A .send) in
+    let carry : A .carries ≡ B .carries = A .number-there ∙ ap (λ (i : ℕ). number (upto i (history s q))) sent-at ∙ sym (B .number-there) in
+    let force : A .forces ≡ B .forces = A .greater ∙ ap (λ (c : ℕ). cond (ltb (number (history s p)) c) 1 0) carry ∙ sym (B .greater) in
+    let received-at : A .receivedAt ≡ B .receivedAt = A .last ∙ ap (λ (f : ℕ). length (history s p) + 1 + f) force ∙ sym (B .last) in
+    ap₂ (λ (c f : ℕ). c ∷ f ∷ A .sentAt ∷ A .receivedAt ∷ []) carry force
+    ∙ ap₂ (λ (i j : ℕ). B .carries ∷ B .forces ∷ i ∷ j ∷ []) sent-at received-at

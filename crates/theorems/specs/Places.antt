@@ -53,3 +53,10 @@ pub record Received (t a : List ℕ) (p q k : ℕ) (s : State) : Type 0 where
 
 abbrev pub Places : Type 0
 Places = (t a : List ℕ) (p q k : ℕ) → stepOn t a p (receipt q k) .returned ≡ 0 → Received t a p q k (decoded t)
+
+-- This leaves no choice: only one answer meets it. Proved as `one-answer`.
+abbrev pub answerOf : {t a : List ℕ} {p q k : ℕ} {s : State} → Received t a p q k s → List ℕ
+answerOf R = R .carries ∷ R .forces ∷ R .sentAt ∷ R .receivedAt ∷ []
+
+abbrev pub OneAnswer : Type 0
+OneAnswer = (t a : List ℕ) (p q k : ℕ) (s : State) (A B : Received t a p q k s) → answerOf A ≡ answerOf B

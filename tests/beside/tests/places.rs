@@ -28,14 +28,14 @@ fn received(pair: &mut Pair, call: Call) -> Option<Answer> {
     let answer: Answer = answer[..].try_into().unwrap();
     let [carried, forces, sent_at, received_at] = answer;
     let after = records(pair.table());
-    let (p_own, q_own) = (p as usize, q as usize);
-    assert_eq!(sent_at as usize, place_of_send(&before[q_own], k), "{call:?}: {}", pair.origin());
-    assert_eq!(after[q_own], before[q_own], "{call:?}: {}", pair.origin());
-    assert_eq!(after[q_own][sent_at as usize - 1], send(p, k, carried), "{call:?}: {}", pair.origin());
-    let mut grown = before[p_own].clone();
+    let (receiver, sender) = (p as usize, q as usize);
+    assert_eq!(sent_at as usize, place_of_send(&before[sender], k), "{call:?}: {}", pair.origin());
+    assert_eq!(after[sender], before[sender], "{call:?}: {}", pair.origin());
+    assert_eq!(after[sender][sent_at as usize - 1], send(p, k, carried), "{call:?}: {}", pair.origin());
+    let mut grown = before[receiver].clone();
     grown.extend([forced(carried)].into_iter().take(forces as usize));
     grown.push(receipt(q, k, carried));
-    assert_eq!(after[p_own], grown, "{call:?}: {}", pair.origin());
+    assert_eq!(after[receiver], grown, "{call:?}: {}", pair.origin());
     assert_eq!(received_at as usize, grown.len(), "{call:?}: {}", pair.origin());
     Some(answer)
 }
