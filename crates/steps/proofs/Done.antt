@@ -118,19 +118,20 @@ pub one-most : (b : Bool) {y : ℕ} → y ≡ cond b 1 0 → y ≤ 1
 one-most true e = omega arith
 one-most false e = omega arith
 
-pub receipt-done : (t a : List ℕ) → Bytes t → (p q k : ℕ) {r E at m i c y : ℕ} {u b : List ℕ} → E ≡ word t 1 → at ≡ start E p
+pub receipt-done : (t a : List ℕ) → Bytes t → (p q k : ℕ) {r E at m i c y d : ℕ} {u b : List ℕ} → E ≡ word t 1 → at ≡ start E p
     → r ≡ stepRow t p (receipt q k) (length a) → r ≡ 0 → Reads (history (decoded t) q) k m i
     → c ≡ word t at
     → y ≡ cond (ltb (word t (at + 1)) m) 1 0
+    → d ≡ c + 1 + y
     → u ≡ withReceipt t at m q k
-    → b ≡ putWords a 0 (m ∷ y ∷ i ∷ (c + 1 + y) ∷ []) → outcome 0 u b ≡ stepOn t a p (receipt q k)
-receipt-done t a bt p q k {m} {i} {c} {y} f j e z R l n v w =
+    → b ≡ putWords a 0 (m ∷ y ∷ i ∷ d ∷ []) → outcome 0 u b ≡ stepOn t a p (receipt q k)
+receipt-done t a bt p q k {m} {i} {y} {d} f j e z R l n o v w =
     let H = ready t a bt p (receipt q k) e z f j .own in
     let h = history (decoded t) p in
     let g = history (decoded t) q in
     let is-forced : y ≡ cond (ltb (number h) (carried g k)) 1 0 = n ∙ rw (H .current, R .0) refl in
-    let place : c + 1 + y ≡ length (grown h (receipt q k) (carried g k)) =
-    rw (receipt-place h q k (carried g k), l, H .count, is-forced)
+    let place : d ≡ length (grown h (receipt q k) (carried g k)) =
+    o ∙ rw (receipt-place h q k (carried g k), l, H .count, is-forced) refl
     in
-    accepted t a bt p (receipt q k) e z (m ∷ y ∷ i ∷ (c + 1 + y) ∷ []) (rw (place, is-forced, R .0, R .1))
+    accepted t a bt p (receipt q k) e z (m ∷ y ∷ i ∷ d ∷ []) (rw (place, is-forced, R .0, R .1))
     (v ∙ receipt-stored t p h m q k (rw (← f) j) (H .count) (H .current) (H .sent) ∙ rw (R .0)) w

@@ -1,5 +1,6 @@
 // Checkpoint, send and receipt (document 01, "Steps").
 ghost use mathlib.Core.Path.{_≡_};
+ghost use Prim.Native.Nat.{_+_, _≤_};
 ghost use Rattle.rules.specs.Steps.{checkpoint as checkpointCall, send as sendCall, receipt as receiptCall};
 ghost use Rattle.rules.specs.Calls.{outcome, stepOn};
 
@@ -33,6 +34,14 @@ pub fn send(table: &mut [u8], area: &mut [u8], p: u32, q: u32) -> u32
     0
 }
 
+// The place of a receipt's record: behind c others, and behind a checkpoint that it forced.
+fn place_behind(c: u32, forced: u32) -> u32
+    requires { ⌜ (c ≤ 1024) × (forced ≤ 1) ⌝ }
+    ensures { λ r. ⌜ r ≡ c + 1 + forced ⌝ }
+{
+    c + 1 + forced
+}
+
 pub fn receipt(table: &mut [u8], area: &mut [u8], p: u32, q: u32, k: u32) -> u32
     ensures { λ r. ⌜ outcome r (now (table .exit)) (now (area .exit)) ≡ stepOn (now (table .entry)) (now (area .entry)) p (receiptCall q k) ⌝ }
 {
@@ -46,8 +55,7 @@ pub fn receipt(table: &mut [u8], area: &mut [u8], p: u32, q: u32, k: u32) -> u32
     let at = shape::start(xdr::get_usize(table, 1), p as usize);
     let c = xdr::get(table, at);
     let forced = store::add_receipt(table, at, carried, q, k);
-    // the receipt's record is the last one, behind a forced checkpoint
-    let received_at = c + 1 + forced;
+    let received_at = place_behind(c, forced);
     store::put_four(area, 0, carried, forced, sent_at, received_at);
     0
 }

@@ -71,23 +71,8 @@ add-receipt-requires c κs =
           (c7 .receipt-row .ensures .1 (c6 .if1 .left) .0),
     )
 
-add-received-at : tie.Need-add-received-at
-add-received-at c =
-    let c4 = c .before .before .before .before in
-    let c6 = c4 .before .before in
-    let c7 = c6 .before in
-    let c9 = c7 .before .before in
-    let c10 = c9 .before in
-    let c13 = c10 .before .before .before in
-    let c14 = c13 .before in
-    let a = c14 .args in
-    let t = a .table .now in
-    let R = ready t (a .area .now) (λ i. omega (arith, c13 .slice-known .given i)) (a .p) (receipt (a .q) (a .k))
-    (c10 .receipt-row .ensures .0) (c9 .if1 .left) (c7 .get-usize .ensures .0) (c6 .start .ensures .0) in
-    rw (c4 .get .ensures) (omega (arith, R .own .short, R .own .most))
-
-add-received-at-2 : tie.Need-add-received-at-2
-add-received-at-2 c =
+place-behind-requires : tie.Need-place-behind-requires
+place-behind-requires c κs =
     let c2 = c .before .before in
     let c4 = c2 .before .before in
     let c6 = c4 .before .before in
@@ -99,22 +84,23 @@ add-received-at-2 c =
     let a = c14 .args in
     let t = a .table .now in
     let R = ready t (a .area .now) (λ i. omega (arith, c13 .slice-known .given i)) (a .p) (receipt (a .q) (a .k))
-    (c10 .receipt-row .ensures .0) (c9 .if1 .left) (c7 .get-usize .ensures .0) (c6 .start .ensures .0) in
-    let y = one-most (forcesAt t (c6 .start .result) (c10 .receipt-row .result .carried)) (c2 .add-receipt .ensures .0) in
-    rw (c4 .get .ensures) (omega (arith, R .own .short, R .own .most, y))
+    (c10 .receipt-row .ensures .0) (c9 .if1 .left) (c7 .get-usize .ensures .0) (c6 .start .ensures .0) in (
+      rw (c4 .get .ensures) (omega (arith, R .own .short, R .own .most)),
+      one-most (forcesAt t (c6 .start .result) (c10 .receipt-row .result .carried)) (c2 .add-receipt .ensures .0),
+    )
 
 put-four-requires : tie.Need-put-four-requires
 put-four-requires c κs =
-    let c7 = c .before .before .before .before .before .before .before in
-    let c8 = c7 .before in
-    let c10 = c8 .before .before in
-    let c11 = c10 .before in
-    let c14 = c11 .before .before .before in
-    let c15 = c14 .before in
-    let a = c15 .args in
+    let c8 = c .before .before .before .before .before .before .before .before in
+    let c9 = c8 .before in
+    let c11 = c9 .before .before in
+    let c12 = c11 .before in
+    let c15 = c12 .before .before .before in
+    let c16 = c15 .before in
+    let a = c16 .args in
     let t = a .table .now in
-    let R = ready t (a .area .now) (λ i. omega (arith, c14 .slice-known .given i)) (a .p) (receipt (a .q) (a .k))
-    (c11 .receipt-row .ensures .0) (c10 .if1 .left) (c8 .get-usize .ensures .0) (c7 .start .ensures .0) in
+    let R = ready t (a .area .now) (λ i. omega (arith, c15 .slice-known .given i)) (a .p) (receipt (a .q) (a .k))
+    (c12 .receipt-row .ensures .0) (c11 .if1 .left) (c9 .get-usize .ensures .0) (c8 .start .ensures .0) in
     omega (arith, R .area)
 
 same-length-2 : tie.Need-same-length-2
@@ -125,20 +111,21 @@ same-length-3 c = search needs
 
 returns-2 : tie.Need-returns-2
 returns-2 c =
-    let c6 = c .before .before .before .before .before .before in
-    let c8 = c6 .before .before in
-    let c10 = c8 .before .before in
-    let c11 = c10 .before in
-    let c13 = c11 .before .before in
-    let c14 = c13 .before in
-    let c17 = c14 .before .before .before in
-    let c18 = c17 .before in
-    let a = c18 .args in
+    let c4 = c .before .before .before .before in
+    let c7 = c4 .before .before .before in
+    let c9 = c7 .before .before in
+    let c11 = c9 .before .before in
+    let c12 = c11 .before in
+    let c14 = c12 .before .before in
+    let c15 = c14 .before in
+    let c18 = c15 .before .before .before in
+    let c19 = c18 .before in
+    let a = c19 .args in
     let t = a .table .now in
-    receipt-done t (a .area .now) (λ i. omega (arith, c17 .slice-known .given i))
-    (a .p) (a .q) (a .k) (c11 .get-usize .ensures .0) (c10 .start .ensures .0) (c14 .receipt-row .ensures .0) (c13 .if1 .left)
-    (c14 .receipt-row .ensures .1 (c13 .if1 .left)) (c8 .get .ensures) (c6 .add-receipt .ensures .0) (c6 .add-receipt .ensures .1)
-    (c .before .before .put-four .ensures)
+    receipt-done t (a .area .now) (λ i. omega (arith, c18 .slice-known .given i))
+    (a .p) (a .q) (a .k) (c12 .get-usize .ensures .0) (c11 .start .ensures .0) (c15 .receipt-row .ensures .0) (c14 .if1 .left)
+    (c15 .receipt-row .ensures .1 (c14 .if1 .left)) (c9 .get .ensures) (c7 .add-receipt .ensures .0) (c4 .place-behind .ensures)
+    (c7 .add-receipt .ensures .1) (c .before .before .put-four .ensures)
 
 pub receipt-spec : {M : Type 1} → statement M
 receipt-spec =
@@ -151,8 +138,7 @@ receipt-spec =
     start-requires
     get-requires
     add-receipt-requires
-    add-received-at
-    add-received-at-2
+    place-behind-requires
     put-four-requires
     same-length-2
     same-length-3
