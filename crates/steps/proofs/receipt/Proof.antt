@@ -84,10 +84,9 @@ place-behind-requires c κs =
     let a = c14 .args in
     let t = a .table .now in
     let R = ready t (a .area .now) (λ i. omega (arith, c13 .slice-known .given i)) (a .p) (receipt (a .q) (a .k))
-    (c10 .receipt-row .ensures .0) (c9 .if1 .left) (c7 .get-usize .ensures .0) (c6 .start .ensures .0) in (
-      rw (c4 .get .ensures) (omega (arith, R .own .short, R .own .most)),
-      one-most (forcesAt t (c6 .start .result) (c10 .receipt-row .result .carried)) (c2 .add-receipt .ensures .0),
-    )
+    (c10 .receipt-row .ensures .0) (c9 .if1 .left) (c7 .get-usize .ensures .0) (c6 .start .ensures .0) in
+    let y = one-most (forcesAt t (c6 .start .result) (c10 .receipt-row .result .carried)) (c2 .add-receipt .ensures .0) in
+    (rw (c4 .get .ensures) (omega (arith, R .own .short, R .own .most)), omega (arith, y))
 
 put-four-requires : tie.Need-put-four-requires
 put-four-requires c κs =
