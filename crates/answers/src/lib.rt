@@ -1,4 +1,6 @@
 // The lines that the text program writes (document 01).
+#![tactic(auto)]
+
 ghost use Rattle.std.specs.Prelude.{◌≡◌, cond, ◌+◌, ◌*◌, ◌≤◌, eqb, length};
 ghost use Rattle.rules.specs.Text.{further_fields, line_end, alone_line};
 ghost use Rattle.decimal.specs.Appended.{Appended};

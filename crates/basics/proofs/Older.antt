@@ -29,11 +29,15 @@ module _ {A : Type 0} where
   older_whole same le = refl
   older_whole (newer o) le = let l = older_length o in absurd (omega arith)
 
+  -- what is shorter is older than the newest element too
+  older_step : (e : A) (g : List A) {a b : List A} → Older a (e ∷ g) → length a ≤ length g → (Older a g → Older a b) → Older a b
+  older_step e g same le f = absurd (omega arith)
+  older_step e g (newer s) le f = f s
+
   -- of two older parts, the shorter is an older part of the longer
   pub older_of : {a b h : List A} → Older a h → Older b h → length a ≤ length b → Older a b
   older_of o same le = o
-  older_of {a} {b} same (newer {e} {g} r) le = let l = older_length r in absurd (omega arith)
-  older_of (newer o) (newer r) le = older_of o r le
+  older_of {a} {b} o (newer {e} {g} r) le = older_step e g o (let l = older_length r in omega arith) (λ s. older_of s r le)
 
   -- an older part is the whole, or there is an element right behind it
   pub data Ahead (g h : List A) : Type 0 where

@@ -1,4 +1,6 @@
 // A line's call on the engine (document 01, "The text program").
+#![tactic(auto)]
+
 ghost use Rattle.std.specs.Prelude.{◌≡◌, ◌≤◌, replicate};
 ghost use Rattle.rules.specs.Text.{ran as ran_of};
 ghost use Rattle.reading.specs.Meanings.{reading_of};

@@ -1,4 +1,6 @@
 // Scans of one process's records for a failure line. `at` is the word at which the records start, and c how many are in the cut.
+#![tactic(auto)]
+
 ghost use Rattle.std.specs.Prelude.{◌≡◌, ◌+◌, ◌*◌, ◌≤◌, ◌<◌, eqb, length};
 ghost use Rattle.xdr.specs.Words.{word};
 ghost use Rattle.rules.specs.Records.{sends as sends_of};

@@ -1,4 +1,6 @@
 // Decimal writing (document 01, "The text program").
+#![tactic(auto)]
+
 ghost use Rattle.std.specs.Prelude.{◌≡◌, ◌+◌, ◌/◌, ◌%◌, ◌^◌, ◌≤◌, ◌<◌, length};
 ghost use Rattle.rules.specs.Text.{decimal};
 ghost use Rattle.decimal.specs.Appended.{Appended, Digits};

@@ -1,4 +1,6 @@
 // The exported calls (include/ckpt.h). Each is held to its outcome under documents 01 and 02, for all bytes, lengths and numbers.
+#![tactic(auto)]
+
 ghost use Rattle.std.specs.Prelude.{◌≡◌, []};
 ghost use Rattle.rules.specs.Steps.{checkpoint, send, receipt};
 ghost use Rattle.rules.specs.Calls.{outcome, outcome_with, fresh_on, step_on, line_on, failed_on};

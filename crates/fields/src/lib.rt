@@ -1,4 +1,6 @@
 // The fields of a line of the text program (document 01).
+#![tactic(auto)]
+
 ghost use Rattle.std.specs.Prelude.{◌≡◌, ◌≤◌, length};
 ghost use Rattle.rules.specs.Text.{digit as digit_of, field_of};
 ghost use Rattle.rules.specs.Compared.{same as same_bytes};

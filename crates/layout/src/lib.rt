@@ -1,4 +1,6 @@
 // The lent table: whether it is well laid, its rows, and fresh tables (document 01, "The table" and rows 1 to 3).
+#![tactic(auto)]
+
 ghost use Rattle.std.specs.Prelude.{◌≡◌, ◌*◌, ◌≤◌, length, replicate, []};
 ghost use Rattle.xdr.specs.Words.{word};
 ghost use Rattle.rules.specs.Table.{start as start_of, sections_ok};

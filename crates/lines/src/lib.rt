@@ -1,4 +1,6 @@
 // The numbered line (document 01, "Lines").
+#![tactic(auto)]
+
 ghost use Rattle.std.specs.Prelude.{◌≡◌, ◌++◌, ℕ, ◌+◌, ◌*◌, ◌≤◌, ◌<◌, length};
 ghost use Rattle.xdr.specs.Words.{word, put_each};
 ghost use Rattle.rules.specs.Table.{start, section_at};

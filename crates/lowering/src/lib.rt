@@ -3,6 +3,8 @@
 // Every process starts at its latest permitted position. A receipt whose send is not in the table, or goes to another process, is an
 // orphan in every cut: one pass takes each process back to before its first one. After that send k of process q is in the cut exactly
 // when q's part has at least k sends, so that a scan for late receipts compares numbers and searches nothing.
+#![tactic(auto)]
+
 ghost use Rattle.std.specs.Prelude.{◌≡◌, cond, ◌+◌, ◌*◌, ◌≤◌, ◌<◌, ltb, length};
 ghost use Rattle.xdr.specs.Words.{word};
 ghost use Rattle.rules.specs.Records.{sends as sends_of};

@@ -3,6 +3,8 @@
 // Where the sends of some processes go is noted, one process behind the other, as many as there is room for, and what the receivers have
 // got is struck: the notes that are left are the messages in transit. So no message is searched for, and a pass over the records serves
 // all senders that are noted.
+#![tactic(auto)]
+
 ghost use Rattle.std.specs.Prelude.{◌≡◌, ◌&&◌, ◌+◌, ◌*◌, ◌≤◌, ◌<◌, ltb, length};
 ghost use Rattle.xdr.specs.Words.{word};
 ghost use Rattle.notes.specs.Noted.{Cut, Noted};

@@ -1,4 +1,6 @@
 // The text program on file descriptors: it reads, has the session answer, and writes.
+#![tactic(auto)]
+
 ghost use Rattle.std.specs.Prelude.{◌≡◌, true, false, ◌*◌, ◌≤◌, length};
 ghost use Rattle.answers.specs.Shows.{answer_room};
 ghost use Rattle.session.specs.Session.{line_room, Ready};

@@ -1,4 +1,6 @@
 // Reading a line of the text program (document 01).
+#![tactic(auto)]
+
 ghost use Rattle.std.specs.Prelude.{◌≡◌};
 ghost use Rattle.rules.specs.Text.{number, empty, asked, word_of, read_line};
 ghost use Rattle.fields.specs.Fields.{field_as};

@@ -1,4 +1,6 @@
 // The reply of the text program to one line, by where the program stands (document 01).
+#![tactic(auto)]
+
 ghost use Rattle.std.specs.Prelude.{◌≡◌, true, ◌+◌, ◌≤◌, length, take};
 ghost use Rattle.rules.specs.Text.{alone_line, in_program_range, fresh_reply, opened, running, replied, read_line};
 ghost use Rattle.decimal.specs.Appended.{Appended};

@@ -1,4 +1,6 @@
 // The messages to send again after a restart (document 02, slip 1): those in transit at the cut from which it goes on.
+#![tactic(auto)]
+
 ghost use Rattle.std.specs.Prelude.{◌≡◌, ◌+◌, ◌*◌, ◌≤◌, ◌<◌, leb, length};
 ghost use Rattle.xdr.specs.Words.{words};
 ghost use Rattle.rules.specs.Table.{decoded};

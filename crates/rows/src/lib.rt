@@ -1,4 +1,6 @@
 // The rows of checkpoint, send and receipt (document 01, "Where a call is stopped"), in their order.
+#![tactic(auto)]
+
 ghost use Rattle.std.specs.Prelude.{◌≡◌, cond, ◌+◌, ◌*◌, ◌≤◌};
 ghost use Rattle.xdr.specs.Words.{word};
 ghost use Rattle.rules.specs.Records.{history};

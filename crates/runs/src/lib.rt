@@ -1,1 +1,2 @@
 // Which states runs leave: laws in proofs/. This crate has no code.
+#![tactic(auto)]

@@ -1,4 +1,6 @@
 // A session of the text program: a byte of the input is held, or ends a line, which is answered (document 01).
+#![tactic(auto)]
+
 ghost use Rattle.std.specs.Prelude.{◌≡◌, ◌&&◌, [], ◌∷◌, ◌+◌, ◌≤◌, eqb, length, take};
 ghost use Rattle.rules.specs.Text.{ends_in_cr};
 ghost use Rattle.answers.specs.Shows.{answer_room};

@@ -1,4 +1,6 @@
 // The table's dimensions: their ranges, its length, and where its sections start (document 01, "The table").
+#![tactic(auto)]
+
 ghost use Rattle.std.specs.Prelude.{◌≡◌, cond, ◌≤◌};
 ghost use Rattle.rules.specs.Table.{in_range, size, start as start_of, most_words};
 

@@ -1,4 +1,6 @@
 // Checkpoint, send and receipt (document 01, "Steps").
+#![tactic(auto)]
+
 ghost use Rattle.std.specs.Prelude.{◌≡◌, ◌+◌, ◌≤◌};
 ghost use Rattle.rules.specs.Steps.{checkpoint as checkpoint_call, send as send_call, receipt as receipt_call};
 ghost use Rattle.rules.specs.Calls.{outcome, step_on};

@@ -1,4 +1,6 @@
 // Records added to a section in place, and answers of two and of four words.
+#![tactic(auto)]
+
 ghost use Rattle.std.specs.Prelude.{◌≡◌, cond, [], ◌∷◌, ◌+◌, ◌*◌, ◌≤◌, length};
 ghost use Rattle.xdr.specs.Words.{word, put_words};
 ghost use Rattle.rules.specs.Table.{heading, width, most_words};

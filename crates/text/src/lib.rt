@@ -1,6 +1,8 @@
 // The text program as functions on bytes (document 01).
 //
 // A session is fed the input chunk by chunk, cut anywhere. What it has written and what it still owes make up `text_output` of the whole.
+#![tactic(auto)]
+
 ghost use Rattle.std.specs.Prelude.{◌≡◌, true, List, [], ℕ, ◌*◌, ◌≤◌, length, take};
 ghost use Rattle.rules.specs.Text.{text_output};
 ghost use Rattle.answers.specs.Shows.{answer_room};

@@ -1,4 +1,6 @@
 // Where a cut starts that is lowered to the failure line: every process at its latest permitted position (document 01, "Lines").
+#![tactic(auto)]
+
 ghost use Rattle.std.specs.Prelude.{◌≡◌, ◌<◌};
 ghost use Rattle.xdr.specs.Words.{word};
 ghost use Rattle.rules.specs.Records.{history, sends as sends_of};

@@ -1,4 +1,6 @@
 // The messages in transit at a cut, counted and listed (document 02, slip 1).
+#![tactic(auto)]
+
 ghost use Rattle.std.specs.Prelude.{◌≡◌, ◌+◌, ◌*◌, ◌≤◌, ◌<◌, length};
 ghost use Rattle.xdr.specs.Words.{put_words};
 ghost use Rattle.rules.specs.Resend.{messages_words};

@@ -1,4 +1,6 @@
 // The unused records of a table, which are zeros (document 01, "The table").
+#![tactic(auto)]
+
 ghost use Rattle.std.specs.Prelude.{◌≡◌, ◌+◌, ◌-◌, ◌*◌, ◌≤◌, eqb, length};
 ghost use Rattle.xdr.specs.Words.{word};
 ghost use Rattle.rules.specs.Table.{heading, width, start as start_of, zeros_at};

@@ -1,4 +1,6 @@
 // The used records of a table, with what each section's heading says of them (document 01, "The table").
+#![tactic(auto)]
+
 ghost use Rattle.std.specs.Prelude.{◌≡◌, ◌+◌, ◌*◌, ◌<◌, ◌≤◌, true, length, ◌==◌};
 ghost use Rattle.xdr.specs.Words.{word};
 ghost use Rattle.rules.specs.Table.{heading, width, start as start_of};
