@@ -1,5 +1,4 @@
--- What holds of every state that a list of calls makes: sizes, numbers that never fall, receipts with their sends, each once, and records
--- that calls add.
+-- What holds of every state that a list of calls makes: sizes, numbers that never fall, receipts with their sends, each once.
 use mathlib.Core.Path.{◌≡◌, refl, sym, ◌∙◌, subst}
 use mathlib.Core.Logic.{◌≢◌, ◌⊎◌, inl, inr}
 use mathlib.Core.Bool.{Bool, true, false, cond}
@@ -12,12 +11,12 @@ use lib.ListN.{length, set, length-set, length-replicate}
 use borrow.Author.Tests.{ltb-true, ltb-false, leb-false, eqb-true}
 use Rattle.rules.specs.Records.{Event, basic, forced, sent, received, History, State, history, number, sends, carried, has_send, has_receipt}
 use Rattle.rules.specs.Table.{fresh}
-use Rattle.rules.specs.Steps.{Call, checkpoint, send, receipt, next_number, forces, carries, grown, stepped}
+use Rattle.rules.specs.Steps.{Call, checkpoint, send, receipt, forces, carries, grown, stepped}
 use Rattle.rules.specs.FailureLine.{sum}
 use Rattle.rules.specs.Calls.{Row, row, first, step_rows}
 use Rattle.rules.specs.Lists.{Entry, entry, check, after, run}
 use Rattle.basics.proofs.Older.{Older, older_length}
-use Rattle.basics.proofs.Booleans.{Test, passes, fails, test, clash}
+use Rattle.basics.proofs.Booleans.{Test, passes, fails, test}
 use Rattle.records.proofs.Histories.{holds_held, holds_older, carried_older, Each, each_all, Rising}
 use Rattle.records.proofs.Steps.{Accepted, run_keeps, after_keeps, history_fresh, each_step, grown_older, grown_length, stepped_older, carries_later}
 
@@ -77,51 +76,6 @@ grown_new n E s p (receipt q k) A c N = go (forces (history s p) c)
     go true = (A.message.3, (tt, N))
     go false = (A.message.3, N)
 
--- ---- each record is one that a call adds behind those before it
-
--- the newest record is no forced checkpoint, whose receipt would have come with it
-abbrev pub settled : History → Bool
-settled [] = true
-settled (basic m ∷ h) = true
-settled (forced m ∷ h) = false
-settled (sent q ∷ h) = true
-settled (received q k c ∷ h) = true
-
--- a receipt that carried c comes right behind the checkpoint that it forced, or behind none that is forced
-abbrev pub Behind : History → ℕ → Type 0
-Behind [] c = Unit {0}
-Behind (basic m ∷ h) c = Unit {0}
-Behind (forced m ∷ h) c = m ≡ c
-Behind (sent q ∷ h) c = Unit {0}
-Behind (received q k d ∷ h) c = Unit {0}
-
-abbrev pub Rule : Event → History → Type 0
-Rule (basic m) h = (m ≡ next_number h) × (settled h ≡ true)
-Rule (forced m) h = (forces h m ≡ true) × (settled h ≡ true)
-Rule (sent q) h = settled h ≡ true
-Rule (received q k c) h = Behind h c
-
-settled_behind : (h : History) (c : ℕ) → settled h ≡ true → Behind h c
-settled_behind [] c e = tt
-settled_behind (basic m ∷ h) c e = tt
-settled_behind (forced m ∷ h) c e = clash false e refl
-settled_behind (sent q ∷ h) c e = tt
-settled_behind (received q k d ∷ h) c e = tt
-
-grown_settled : (h : History) (call : Call) (c : ℕ) → settled (grown h call c) ≡ true
-grown_settled h checkpoint c = refl
-grown_settled h (send q) c = refl
-grown_settled h (receipt q k) c = refl
-
-grown_ruled : (h : History) (call : Call) (c : ℕ) → settled h ≡ true → Each Rule h → Each Rule (grown h call c)
-grown_ruled h checkpoint c e R = ((refl, e), R)
-grown_ruled h (send q) c e R = (e, R)
-grown_ruled h (receipt q k) c e R = go (test (forces h c))
-  where
-    go : Test (forces h c) → Each Rule (received q k c ∷ (cond (forces h c) (forced c ∷ []) [] ++ h))
-    go (passes f) = rw f (refl, ((f, e), R))
-    go (fails f) = rw f (settled_behind h c e, R)
-
 -- ---- the number carried is at most the sender's number
 
 pub carried_le : (h : History) (k : ℕ) → Rising h → carried h k ≤ number h
@@ -137,15 +91,17 @@ carried_le (sent q ∷ h) k r = go (eqb k (suc (sends h))) (carried_le h k r.1)
 
 -- ---- how many records there are in all
 
-abbrev pub total : State → ℕ
+pub total : State → ℕ
 total s = sum (map length s)
 
-pub total_set : (s : State) (p : ℕ) (g : History) → p < length s → total (set s p g) + length (history s p) ≡ total s + length g
+total_set : (s : State) (p : ℕ) (g : History) → p < length s → total (set s p g) + length (history s p) ≡ total s + length g
+unfolding total
 total_set [] p g lt = absurd (not-suc-le-zero lt)
 total_set (h ∷ s) zero g lt = omega arith
 total_set (h ∷ s) (suc p) g lt = let r = total_set s p g (le_of_suc-le-suc lt) in omega arith
 
 total_le : (s : State) (E : ℕ) → ((p : ℕ) → length (history s p) ≤ E) → total s ≤ length s * E
+unfolding total
 total_le [] E h = zero-le
 total_le (x ∷ s) E h =
     let r = total_le s E (λ p. h (suc p)) in
@@ -162,8 +118,6 @@ pub record Sound (n E : ℕ) (s : State) : Type 0 where
   pub sourced : (p : ℕ) → Sourced s p (history s p)
   pub named : (p : ℕ) → Each (Name n p) (history s p)
   pub single : (p : ℕ) → Each New (history s p)
-  pub ruled : (p : ℕ) → Each Rule (history s p)
-  pub ends : (p : ℕ) → settled (history s p) ≡ true
   pub bounded : (p : ℕ) → number (history s p) ≤ total s
 
 grown_rising : (h : History) (call : Call) (c : ℕ) → Rising h → Rising (grown h call c)
@@ -230,8 +184,6 @@ made_step n E s p call M A =
           (λ r ne. each_all (Source s r) (Source f r) (source_later s f o r) (history s r) (M.sourced r));
       named = each_step (λ (r : ℕ) (x : History). Each (Name n r) x) s p g lt (grown_named n E s p call A h c (M.named p)) (λ r ne. M.named r);
       single = each_step (λ (r : ℕ) (x : History). Each New x) s p g lt (grown_new n E s p call A c (M.single p)) (λ r ne. M.single r);
-      ruled = each_step (λ (r : ℕ) (x : History). Each Rule x) s p g lt (grown_ruled h call c (M.ends p) (M.ruled p)) (λ r ne. M.ruled r);
-      ends = each_step (λ (r : ℕ) (x : History). settled x ≡ true) s p g lt (grown_settled h call c) (λ r ne. M.ends r);
       bounded = each_step (λ (r : ℕ) (x : History). number x ≤ total f) s p g lt
           (let a = grown_number h call c (total s) (M.bounded p) (carries_le n E s M call) in omega arith)
           (λ r ne. let a = M.bounded r in omega arith);
@@ -246,8 +198,6 @@ made_fresh n E =
       sourced = λ p. rw (history_fresh n p) tt;
       named = λ p. rw (history_fresh n p) tt;
       single = λ p. rw (history_fresh n p) tt;
-      ruled = λ p. rw (history_fresh n p) tt;
-      ends = λ p. rw (history_fresh n p);
       bounded = λ p. rw (history_fresh n p) zero-le;
     }
 

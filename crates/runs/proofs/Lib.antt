@@ -1,3 +1,4 @@
+pub mod Rules
 pub mod Ways
 pub mod Next
 pub mod Stops

@@ -8,8 +8,9 @@ use Rattle.rules.specs.Steps.{next_number, forces}
 use Rattle.basics.proofs.Older.{Older, Ahead, whole, behind, ahead}
 use Rattle.basics.proofs.Booleans.{clash}
 use Rattle.records.proofs.Histories.{holds_held, held_holds, carried_older, destination_older, each_older}
-use Rattle.records.proofs.Made.{Source, New, Rule, settled}
-use Rattle.runs.proofs.Ways.{MadeState, sound, Reached}
+use Rattle.records.proofs.Made.{Source, New}
+use Rattle.runs.proofs.Rules.{Rule, settled}
+use Rattle.runs.proofs.Ways.{MadeState, sound, ruled, Reached}
 
 -- the receipt of a message whose send is there
 pub record Taken (c : State) (p q k m : ℕ) (h : History) : Type 0 where
@@ -29,7 +30,7 @@ module _ {n E : ℕ} {s c : State} (M : MadeState n E s) (R : Reached n E s c) (
   h = history c p
 
   rule : {e : Event} {g : History} → Older (e ∷ g) (history s p) → Rule e g
-  rule o = (each_older Rule o ((sound M).ruled p)).0
+  rule o = (each_older Rule o ((ruled M).ruled p)).0
 
   pub next_basic : {m : ℕ} → Older (basic m ∷ h) (history s p) → m ≡ next_number h
   next_basic o = (rule o).0
@@ -57,5 +58,5 @@ module _ {n E : ℕ} {s c : State} (M : MadeState n E s) (R : Reached n E s c) (
           record { greater = (rule o).0; q = q; k = k; behind = subst (λ (x : ℕ). Older (received q k x ∷ forced m ∷ h) (history s p)) (sym e) u }
 
       here : Ahead (forced m ∷ h) (history s p) → Forced h (history s p) m
-      here (whole e) = clash false (ap settled e ∙ (sound M).ends p) refl
+      here (whole e) = clash false (ap settled e ∙ (ruled M).ends p) refl
       here (behind e u) = by e u

@@ -15,7 +15,7 @@ use Rattle.rules.specs.Lists.{Entry, entry, accepts, after, run}
 use Rattle.basics.proofs.Older.{Older, same, newer, none_older, older_trans, older_length, older_whole, older_of}
 use Rattle.basics.proofs.Booleans.{Test, passes, fails, test}
 use Rattle.records.proofs.Histories.{holds_held, sends_older}
-use Rattle.records.proofs.Steps.{Accepted, accepts_met, run_keeps, history_same, history_fresh, each_step, stepped_older}
+use Rattle.records.proofs.Steps.{Accepted, accepts_met, run_keeps, after_length, history_same, history_fresh, each_step, stepped_older}
 use Rattle.runs.proofs.Ways.{MadeState}
 
 -- Process p can't go past `top`, a part of its history in s: that is the whole, or right behind it stands the receipt of a send that its

@@ -16,6 +16,7 @@ use Rattle.rules.specs.Audit.{asked}
 use Rattle.basics.proofs.Older.{Older, none_older, older_length}
 use Rattle.records.proofs.Steps.{Accepted, Message, history_fresh, each_step, grown_length}
 use Rattle.records.proofs.Made.{Sound, made, never_ten}
+use Rattle.runs.proofs.Rules.{Ruled, made_ruled}
 
 -- ---- made states
 
@@ -26,6 +27,9 @@ pub record MadeState (n E : ℕ) (s : State) : Type 0 where
 
 pub sound : {n E : ℕ} {s : State} → MadeState n E s → Sound n E s
 sound {n} {E} m = subst (Sound n E) m.leaves (made n E m.list)
+
+pub ruled : {n E : ℕ} {s : State} → MadeState n E s → Ruled n s
+ruled {n} {E} m = subst (Ruled n) m.leaves (made_ruled n E m.list)
 
 pub none_made : (n E : ℕ) → MadeState n E (fresh n)
 none_made n E = record { list = []; leaves = refl }

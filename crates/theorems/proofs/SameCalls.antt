@@ -46,6 +46,9 @@ unfolding said
 said_returned n E s (entry p call area) =
     judged_returned (check n E s (entry p call area)) (layout n E s) area (layout n E (stepped s p call)) (answer s p call)
 
+pub after_length : (n E : ℕ) (s : State) (e : Entry) → length (after n E s e) ≡ length s
+after_length n E s e = after_keeps (λ (t : State). length t ≡ length s) n E (λ t p call h A. length-set t p _ ∙ h) s e refl
+
 pub run_length : (n E : ℕ) (s : State) (l : List Entry) → length (run n E s l) ≡ length s
 run_length n E s l = run_keeps (λ (t : State). length t ≡ length s) n E (λ t p call h A. length-set t p _ ∙ h) s l refl
 

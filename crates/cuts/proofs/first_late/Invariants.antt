@@ -1,0 +1,14 @@
+use Prim.Native.Nat.{◌≤◌, ◌-◌}
+use mathlib.Core.Bool.{false}
+use mathlib.Core.Path.{◌≡◌}
+use Rattle.cuts.specs.Tests.{late}
+use Rattle.rules.specs.FailureLine.{any}
+use Rattle.rules.specs.Table.{records_at}
+use Rattle.xdr.specs.Words.{word}
+use Rattle.cuts.proofs.first_late.Given as goal
+
+abbrev pub invariant-loop-i : goal.invariant-loop-i
+invariant-loop-i l = (any (late l.sends) (records_at (word l.t) l.at l.i) ≡ false) × (l.i ≤ l.c)
+
+abbrev pub decreases-loop-i : goal.decreases-loop-i
+decreases-loop-i l = l.c - l.i

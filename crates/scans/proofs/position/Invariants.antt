@@ -1,0 +1,13 @@
+use Prim.Native.Nat.{◌-◌, ◌≤◌}
+use mathlib.Core.Path.{◌≡◌}
+use mathlib.Core.Bool.{false}
+use Rattle.xdr.specs.Words.{word}
+use Rattle.rules.specs.Table.{records_at}
+use Rattle.records.proofs.NumberedLines.{reached}
+use Rattle.scans.proofs.position.Given as goal
+
+abbrev pub invariant-loop-i : goal.invariant-loop-i
+invariant-loop-i l = (reached l.m (records_at (word l.t) l.at l.i) ≡ false) × (l.i ≤ l.c)
+
+abbrev pub decreases-loop-i : goal.decreases-loop-i
+decreases-loop-i l = l.c - l.i
