@@ -131,10 +131,10 @@ module _ (t : List ℕ) (e at from p q k : ℕ) {c d o m : ℕ} {found : Bool} (
   abbrev rows : List Row
   rows = receipt_rows_at t e at from p q k
 
-  pub message_missing : not (found && eqb o p) ≡ true → 7 ≡ first rows
+  pub message_missing : (found && eqb o p) ≡ false → 7 ≡ first rows
   message_missing x = rw (← j, ← f, ← h, x)
 
-  module _ (there : not (found && eqb o p) ≡ false) {b : Bool} (a : b ≡ has_receipt (records_at (word t) (at + heading) c) q k) where
+  module _ (there : (found && eqb o p) ≡ true) {b : Bool} (a : b ≡ has_receipt (records_at (word t) (at + heading) c) q k) where
     pub message_again : b ≡ true → 8 ≡ first rows
     message_again x = rw (← i, ← j, ← f, ← h, there, ← a, x)
 
