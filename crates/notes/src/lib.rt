@@ -11,7 +11,7 @@ ghost use Rattle.notes.specs.Noted.{Cut, Noted};
 
 // The senders that are noted: from process `from` on, before `next`. `starts` has from which index on each is noted, `counts` how many
 // sends, and `many` is how many notes there are.
-#[derive(Drop)]
+#[derive(Clone, Copy, Drop)]
 pub struct Senders {
     pub from: usize,
     pub next: usize,
