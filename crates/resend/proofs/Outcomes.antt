@@ -15,7 +15,7 @@ use Rattle.rules.specs.Resend.{in_transit, messages_words, resend_words, above, 
 use Rattle.tops.specs.Tops.{Laid}
 use Rattle.notes.specs.Noted.{Cut}
 use Rattle.transit.specs.Transit.{sends_below}
-use borrow.Author.Tests.{ne_eqb, eq-eqb, lt-ltb, le-ltb, leb-false, leb-true, eqb-true, not-false, ltb-false, not-true}
+use borrow.Author.Tests.{ne_eqb, eq-eqb, lt-ltb, le-ltb, leb-false, leb-true, eqb-true, not-false, ltb-false}
 use Rattle.records.proofs.Transit.{above_none}
 use Rattle.records.proofs.Rows.{none_met, judged_stop_with, going, judged_done_with, stopped}
 use Rattle.notes.proofs.Places.{cut_at}
@@ -51,15 +51,15 @@ module _ (n : ℕ) (s : State) (positions : List ℕ) (len : ℕ) where
     twelve_above y = rw (eq-eqb (length positions) (4 * n) e, ← is, y)
 
     module _ (none : f ≡ false) {fits : Bool} (fit : fits ≡ leb (4 + 12 * length (in_transit s (words positions))) len) where
-      pub thirteen : not fits ≡ true → 13 ≡ first (resend_rows n s positions len)
+      pub thirteen : fits ≡ false → 13 ≡ first (resend_rows n s positions len)
       thirteen y =
           let need = 4 + 12 * length (in_transit s (words positions)) in
-          rw (eq-eqb (length positions) (4 * n) e, ← is, none, lt-ltb len need (leb-false need len (sym fit ∙ not-true fits y)))
+          rw (eq-eqb (length positions) (4 * n) e, ← is, none, lt-ltb len need (leb-false need len (sym fit ∙ y)))
 
-      pub no_row : not fits ≡ false → 0 ≡ first (resend_rows n s positions len)
+      pub no_row : fits ≡ true → 0 ≡ first (resend_rows n s positions len)
       no_row y =
           let need = 4 + 12 * length (in_transit s (words positions)) in
-          rw (eq-eqb (length positions) (4 * n) e, ← is, none, le-ltb len need (leb-true need len (sym fit ∙ not-false fits y)))
+          rw (eq-eqb (length positions) (4 * n) e, ← is, none, le-ltb len need (leb-true need len (sym fit ∙ y)))
 
 -- positions that don't meet row 12 are a cut
 pub is_cut : (t positions : List ℕ) {n E : ℕ} → Laid t n E → length positions ≡ 4 * n → above (decoded t) (words positions) n ≡ false

@@ -24,7 +24,7 @@ fits-requires c = let a = c.args in
 
 pub returns-then-not-fits : goal.returns-then-not-fits
 returns-then-not-fits c = let a = c.args in
-    let F = c.fits2.ensures in (
+    let F = c.fits.ensures in (
       thirteen a.n (decoded a.t.now) a.positions.now a.len c.if-positions-n.false c.above.ensures c.if-above.false F.0
           c.if-not-fits.true,
       F.1,
@@ -32,7 +32,7 @@ returns-then-not-fits c = let a = c.args in
 
 pub returns : goal.returns
 returns c = let a = c.args in
-    let F = c.fits2.ensures in (
+    let F = c.fits.ensures in (
       no_row a.n (decoded a.t.now) a.positions.now a.len c.if-positions-n.false c.above.ensures c.if-above.false F.0
           c.if-not-fits.false,
       F.1,
