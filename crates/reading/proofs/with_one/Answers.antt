@@ -1,0 +1,15 @@
+use Rattle.reading.proofs.Lines.{named, none_of_one}
+use Rattle.reading.proofs.with_one.Goals as goal
+
+pub returns-then-same : goal.returns-then-same
+returns-then-same c = named _ _ _ c.args.w.now _ c.same.ensures c.if-same.true
+
+pub returns-then-same-2 : goal.returns-then-same-2
+returns-then-same-2 c = named _ _ _ c.args.w.now _ c.same-2.ensures c.if-same-2.true
+
+pub returns-then-same-3 : goal.returns-then-same-3
+returns-then-same-3 c = named _ _ _ c.args.w.now _ c.same-3.ensures c.if-same-3.true
+
+pub returns : goal.returns
+returns c = none_of_one c.args.w.now _ c.same.ensures c.if-same.false c.same-2.ensures c.if-same-2.false
+    c.same-3.ensures c.if-same-3.false
