@@ -14,7 +14,7 @@ use reading::Call;
 pub const TABLE_ROOM: usize = 8 + 4 * 8 * (shape::HEADING + shape::WIDTH * 256);
 
 // Where the program stands: before its first line, with a table of n processes in the first bytes of its room, or at its end.
-#[derive(Drop)]
+#[derive(Clone, Copy, Drop)]
 pub enum Stage {
     Waiting,
     Running { n: usize, size: usize },

@@ -13,7 +13,7 @@ pub const LINE_ROOM: usize = 66;
 
 // How many bytes are held of the line that has not ended, where the program stands, and how many bytes are written. Of a line of 66
 // bytes and more the first 65 are held and the last: enough to know that it is too long, and whether it ends in CR.
-#[derive(Drop)]
+#[derive(Clone, Copy, Drop)]
 pub struct Session {
     pub held: usize,
     pub stage: Stage,
