@@ -1,4 +1,4 @@
-// The text program on file descriptors: it reads, has the session answer, and writes.
+// The text program over a reader and a writer: it reads, has the session answer, and writes.
 #![tactic(auto)]
 
 ghost use Rattle.std.specs.Prelude.{◌≡◌, true, false, ◌*◌, ◌≤◌, length};
@@ -7,6 +7,7 @@ ghost use Rattle.session.specs.Session.{line_room, Ready};
 ghost use Rattle.replies.specs.Replies.{table_room, is_ended};
 
 use session::Session;
+use std::io::{Read, Write};
 
 // The bytes that are read at a time, at most.
 const CHUNK: usize = 1024;
@@ -21,22 +22,22 @@ struct Turn {
     on: bool,
 }
 
-// Answers what is left where the input has ended.
-fn last(s: Session, line: &[u8], room: &mut [u8], out: &mut [u8], to: i32)
+// Answers what is left where the input has ended, and tells whether the writer took it.
+fn last<W: Write>(s: Session, line: &[u8], room: &mut [u8], out: &mut [u8], to: &mut W) -> bool
     requires { Ready s line.now room.old × (answer_room ≤ length out.old) }
 {
     let n = text::finish(s, line, room, out);
-    io::write_all(to, &out[..n]);
+    to.write_all(&out[..n]).is_ok()
 }
 
 // Reads once and answers what came. A read that fails, a reader that has gone away and a session at its end do not go on.
-fn take_turn(
+fn take_turn<R: Read, W: Write>(
     s: Session,
     line: &mut [u8],
     room: &mut [u8],
     out: &mut [u8],
-    from: i32,
-    to: i32,
+    from: &mut R,
+    to: &mut W,
 ) -> Turn
     requires { Ready s line.old room.old × (1024 * answer_room ≤ length out.old) }
     ensures { Ready result.session line.new room.new
@@ -44,16 +45,15 @@ fn take_turn(
         × (result.on ≡ true → is_ended result.session.stage ≡ false) }
 {
     let mut chunk = [0u8; CHUNK];
-    let got = libc::read(from, &mut chunk);
-    let n = io::count(got, &chunk);
-    if got == 0 {
-        last(s, &line[..], room, out, to);
-        return Turn {
+    let n = match from.read(&mut chunk) {
+        Ok(n) => n,
+        Err(_) => return Turn {
             session: s,
             on: false,
-        };
-    }
+        },
+    };
     if n == 0 {
+        last(s, &line[..], room, out, to);
         return Turn {
             session: s,
             on: false,
@@ -61,7 +61,7 @@ fn take_turn(
     }
     let r = text::feed(s, line, room, &chunk[..n], out);
     let written = r.written;
-    let taken = io::write_all(to, &out[..written]);
+    let taken = to.write_all(&out[..written]).is_ok();
     Turn {
         session: r,
         on: taken & !text::ended(r),
@@ -69,7 +69,13 @@ fn take_turn(
 }
 
 // A proved loop has to end, and nothing says that an input does: it counts its turns down from a number that no run uses up.
-fn run_in(line: &mut [u8], room: &mut [u8], out: &mut [u8], from: i32, to: i32)
+fn run_in<R: Read, W: Write>(
+    line: &mut [u8],
+    room: &mut [u8],
+    out: &mut [u8],
+    from: &mut R,
+    to: &mut W,
+)
     requires { (length line.old ≡ line_room) × (length room.old ≡ table_room) × (1024 * answer_room ≤ length out.old) }
 {
     let mut s = text::start();
@@ -85,8 +91,8 @@ fn run_in(line: &mut [u8], room: &mut [u8], out: &mut [u8], from: i32, to: i32)
     }
 }
 
-// Runs the program on the input of one descriptor and the output of another. It holds a line, a table, and the answers to a chunk.
-pub fn run(from: i32, to: i32) {
+// Runs the program on the input of a reader and the output of a writer. It holds a line, a table, and the answers to a chunk.
+pub fn run<R: Read, W: Write>(from: &mut R, to: &mut W) {
     let mut line = [0u8; session::LINE_ROOM];
     let mut room = [0u8; replies::TABLE_ROOM];
     let mut out = [0u8; OUT_ROOM];

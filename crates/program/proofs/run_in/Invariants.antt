@@ -1,0 +1,11 @@
+use Rattle.std.proofs.Common.{◌≡◌, ◌*◌, ◌≤◌, length, false}
+use Rattle.answers.specs.Shows.{answer_room}
+use Rattle.session.specs.Session.{Ready}
+use Rattle.replies.specs.Replies.{is_ended}
+use Rattle.program.proofs.run_in.Given as goal
+
+abbrev pub invariant-loop-turns : goal.invariant-loop-turns
+invariant-loop-turns g l = Ready l.s l.line l.room × (1024 * answer_room ≤ length l.out)
+
+abbrev pub decreases-loop-turns : goal.decreases-loop-turns
+decreases-loop-turns g l = l.turns
