@@ -1,4 +1,4 @@
-# Everything made goes to target/.
+# Everything made goes to target/, and what the checks keep to the out/ of each crate.
 LIB = target/staticlib/libengine.a
 CFLAGS = -std=c99 -O2 -Wall -Wextra -Wpedantic
 CALLS = examples/worked.csv
@@ -15,7 +15,7 @@ endif
 into = $(DESTDIR)$(abspath $(PREFIX))
 
 # what is proved, and by what: the archive and the program are made anew when any of it is newer
-sources = $(shell find crates.txt crates -name must-fail -prune -o -type f -print) $(shell command -v rt)
+sources = $(shell find crates.txt crates \( -name must-fail -o -name out \) -prune -o -type f -print) $(shell command -v rt)
 
 .PHONY: run program run-c run-host lib install uninstall fuzz sizes bench test clean
 
@@ -29,9 +29,9 @@ run: program
 program: target/bin/ckpt
 
 target/bin/ckpt: $(sources)
-	@mkdir -p target
-	@rt check ckpt > target/program.log 2>&1 || { cat target/program.log; exit 1; }
-	@touch $@
+	@mkdir -p target/bin
+	@(cd crates/ckpt && rt run --cpu x86-64 < /dev/null) > target/program.log 2>&1 || { cat target/program.log; exit 1; }
+	@cp crates/ckpt/out/ckpt $@
 
 # runs the worked controller of document 01 from C
 run-c: target/worked
@@ -45,9 +45,9 @@ run-host: target/host
 lib: $(LIB)
 
 $(LIB): $(sources)
-	@mkdir -p target
-	@rt staticlib engine > target/lib.log 2>&1 || { cat target/lib.log; exit 1; }
-	@touch $@
+	@mkdir -p target/staticlib
+	@(cd crates/engine_c && rt lib --cpu x86-64) > target/lib.log 2>&1 || { cat target/lib.log; exit 1; }
+	@cp crates/engine_c/out/libengine_c.a $@
 
 target/worked target/host: target/%: examples/%.c include/ckpt.h $(LIB)
 	@$(CC) $(CFLAGS) -Iinclude -o $@ $< $(LIB)
@@ -80,4 +80,4 @@ test:
 	tests/all.sh
 
 clean:
-	rm -rf target
+	rm -rf target crates/*/out

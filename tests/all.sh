@@ -7,7 +7,6 @@ cd "$(dirname "$0")/.." || exit 2
 passed=0
 failed=0
 
-# rt ci removes target/, so what is printed is kept elsewhere
 log=$(mktemp) || exit 2
 trap 'rm -f "$log"' EXIT
 
@@ -26,10 +25,9 @@ counted() {
     fi
 }
 
-# Must-fail edits are tried in groups that wait for their slowest, so that a group of four leaves two cores less idle than one of two.
-export RT_JOBS=${RT_JOBS:-4}
-
 counted rt ci
+# an edit that can't be tried says nothing of a contract, and rt ci only notes it
+! grep -E '^rt: ok;.*, [0-9]+ bad' "$log" || failed=$((failed + 1))
 [ "$failed" -gt 0 ] || counted tests/run.sh
 
 echo "$passed passed, $failed failed"

@@ -56,10 +56,7 @@ vectors_current() {
 }
 
 program_made() {
-    [ -x target/bin/ckpt ] || {
-        echo "target/bin/ckpt is missing: run \`rt ci\` first" >&2
-        return 1
-    }
+    make -s program && [ -x target/bin/ckpt ]
 }
 
 # every example gets the answers that stand beside it, and the listing is what the gate runs the program on

@@ -12,7 +12,6 @@ use lib.Seq.{drop-cons, take-suc, take_all, get_or-drop}
 use borrow.Author.Tests.{lt-ltb, le-ltb, le-leb, lt-leb, eq-eqb, ne_eqb, leb-true}
 use Rattle.rules.specs.Text.{empty, number, other, digit, digits, value_from, field_of, fields_from}
 use Rattle.rules.specs.Compared.{same}
-use Rattle.fields.specs.declared.Field as reading
 use Rattle.fields.specs.Fields.{Ends}
 use Rattle.basics.proofs.Booleans.{picks, skips}
 

@@ -22,12 +22,12 @@ struct Turn {
     on: bool,
 }
 
-// Answers what is left where the input has ended, and tells whether the writer took it.
-fn last<W: Write>(s: Session, line: &[u8], room: &mut [u8], out: &mut [u8], to: &mut W) -> bool
+// Answers what is left where the input has ended.
+fn last<W: Write>(s: Session, line: &[u8], room: &mut [u8], out: &mut [u8], to: &mut W)
     requires { Ready s line.now room.old × (answer_room ≤ length out.old) }
 {
     let n = text::finish(s, line, room, out);
-    to.write_all(&out[..n]).is_ok()
+    let _taken = to.write_all(&out[..n]).is_ok();
 }
 
 // Reads once and answers what came. A read that fails, a reader that has gone away and a session at its end do not go on.

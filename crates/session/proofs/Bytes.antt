@@ -12,7 +12,6 @@ use lib.Seq.{take-take, take-suc-set, length-take-le, get_or-take, get_or_at}
 use borrow.Author.Tests.{lt-leb}
 use Rattle.rules.specs.Text as text
 use Rattle.basics.proofs.Booleans.{picks, skips}
-use Rattle.replies.specs.declared.Stage.{Stage}
 use Rattle.session.specs.declared.Session.{Session}
 use Rattle.replies.specs.declared.Reply.{Reply}
 use Rattle.session.specs.Session.{line_room, Ready, Took}

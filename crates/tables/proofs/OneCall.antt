@@ -2,7 +2,7 @@
 use mathlib.Core.Path.{◌≡◌, refl, sym}
 use mathlib.Core.Bool.{Bool, true, false, cond}
 use mathlib.Core.List.{List, [], ◌∷◌}
-use Prim.Native.Nat.{ℕ, suc, ◌+◌, ◌-◌, ◌*◌, ◌≤◌, ◌<◌, zero-le}
+use Prim.Native.Nat.{ℕ, suc, ◌+◌, ◌*◌, ◌≤◌, ◌<◌, zero-le}
 use native.Mathlib.Nat.{le_trans}
 use native.Mathlib.Omega.{arith}
 use native.Mathlib.Decide.{dec_lt}
@@ -11,7 +11,7 @@ use lib.ListN.{length, length-append}
 use borrow.Author.Tests.{eqb-true, not-false}
 use Rattle.rules.specs.Records.{basic, forced, sent, received, History, State, history, number, sends, carried, has_send}
 use Rattle.rules.specs.Steps.{Call, checkpoint, send, receipt, forces, carries, added, stepped}
-use Rattle.rules.specs.Calls.{first, table_rows, needed}
+use Rattle.rules.specs.Calls.{table_rows, needed}
 use Rattle.xdr.specs.Words.{word}
 use Rattle.rules.specs.Table.{layout, sections_ok, decoded, size, in_range, well_laid}
 use Rattle.records.proofs.Histories.{holds_held}

@@ -11,7 +11,7 @@ use lib.Dec.{leb, ltb, eqb}
 use lib.ListN.{length, replicate, length-append, length-replicate, get_or-replicate}
 use borrow.Author.Tests.{eqb-false, ltb-true, not-true, eqb-true, leb-true}
 use Rattle.rules.specs.Records.{Event, History, State, history, number, sends}
-use Rattle.xdr.specs.Words.{word, bytes}
+use Rattle.xdr.specs.Words.{word}
 use Rattle.rules.specs.Table.{heading, width, record_words, used_words, heading_words, section_words, sections_words, layout, event_of, event_at, records_at, start, section_at, sections_from, record_ok, record_ok_at, records_ok, zeros_at, section_ok, sections_ok, decoded, size}
 use Rattle.tables.specs.Sections.{SendsLaid}
 use Rattle.basics.proofs.Booleans.{Test, passes, fails, test, and_left, and_right, each_below}

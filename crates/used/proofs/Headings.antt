@@ -1,5 +1,5 @@
 -- A section's marks, and what its heading says beside what was found.
-use Rattle.std.proofs.Common.{◌≡◌, ℕ, ◌+◌, ◌-◌, ◌*◌, ◌<◌, true, ◌&&◌, eqb, ◌∙◌}
+use Rattle.std.proofs.Common.{◌≡◌, ℕ, ◌+◌, ◌*◌, ◌<◌, true, ◌&&◌, eqb, ◌∙◌}
 use lib.Bits.{bit_and, bit_or, bit_xor, or_shifted}
 use Rattle.rules.specs.Records.{number, sends}
 use Rattle.rules.specs.Table.{heading, records_at, records_ok}

@@ -27,7 +27,7 @@ extern "C" {
 pub fn path() -> PathBuf {
     let made = || PathBuf::from(env!("CARGO_MANIFEST_DIR")).join("../../target/bin/ckpt");
     let path = env::var_os("CKPT_PROGRAM").map_or_else(made, PathBuf::from);
-    assert!(path.is_file(), "{} is missing: run `rt ci` first", path.display());
+    assert!(path.is_file(), "{} is missing: run `make program` first", path.display());
     path
 }
 

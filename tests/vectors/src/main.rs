@@ -31,22 +31,20 @@ const UNMADE: [(u32, u32); 14] = [
 const HEAD: &str = "\
 -- Vectors for the rules. Generated: `cargo run -p vectors` in tests/ prints this file. Every number, table and answer below comes from
 -- the reference engine in tests/reference, which shares nothing with the definitions that are tried here.
-use mathlib.Core.Path.{refl}
-use mathlib.Core.List.{List, [], _∷_, _++_}
-use Prim.Native.Nat.{ℕ}
-use lib.Count.{ones, onesIn}
-use Rattle·xdr.specs.Words.{word, putWord, putWords, bytes}
-use Rattle·rules.specs.Table.{layout, decoded, wellLaid}
-use Rattle·rules.specs.Steps.{checkpoint, send, receipt}
-use Rattle·rules.specs.FailureLine.{round, rounds, failureLine}
-use Rattle·rules.specs.Calls.{failureAnswer, freshOn, stepOn, lineOn, failedOn}
-use Rattle·rules.specs.Text.{fresh, step, line, failed}
-use Rattle·rules.specs.Resend.{inTransit, resendOn}
-use Rattle·vectors·specs.specs.Try.{Script, script, refused, accepted, resend, lent, Agree}
+use Rattle.std.specs.Prelude.{refl, List, [], ◌∷◌, ◌++◌, ℕ}
+use Rattle.std.specs.Int.Count.{ones, ones_in}
+use Rattle.xdr.specs.Words.{word, put_word, put_words, bytes}
+use Rattle.rules.specs.Table.{layout, decoded, well_laid}
+use Rattle.rules.specs.Steps.{checkpoint, send, receipt}
+use Rattle.rules.specs.FailureLine.{round, rounds, failure_line}
+use Rattle.rules.specs.Calls.{failure_answer, fresh_on, step_on, line_on, failed_on}
+use Rattle.rules.specs.Text.{fresh, step, line, failed}
+use Rattle.rules.specs.Resend.{in_transit, resend_on}
+use Rattle.vectors.specs.Try.{Script, script, refused, accepted, resend, lent, Agree}
 ";
 
 const UNFOLDING: &str =
-    "unfolding freshOn stepOn lineOn failedOn resendOn layout decoded wellLaid word putWord putWords failureAnswer failureLine rounds round ones onesIn inTransit";
+    "unfolding fresh_on step_on line_on failed_on resend_on layout decoded well_laid word put_word put_words failure_answer failure_line rounds round ones ones_in in_transit";
 
 /// A list as antt has it.
 fn list<T: ToString>(items: &[T]) -> String {
@@ -128,7 +126,7 @@ impl File {
         pieces.push(String::from("[]"));
         let body = wrapped(&format!("{name} ="), &pieces);
         self.text += &format!(
-            "\n-- {note}\nabbrev {name} : List Script\n{body}\n\npub {name}-agree : Agree {name}\n{UNFOLDING}\n{name}-agree = refl\n"
+            "\n-- {note}\nabbrev {name} : List Script\n{body}\n\npub {name}_agree : Agree {name}\n{UNFOLDING}\n{name}_agree = refl\n"
         );
     }
 }
@@ -622,11 +620,11 @@ fn rules() -> String {
         file.group(&format!("unmade{i}"), &note, vec![script]);
     }
     let cuts = "Resend at every cut of the worked controller, and of a table whose receipts are by others than the destination, or twice.";
-    file.group("resendCuts", cuts, cuts_of_small_tables());
-    file.group("resendRows", "The rows of resend, in order.", vec![rows_of_resend()]);
+    file.group("resend_cuts", cuts, cuts_of_small_tables());
+    file.group("resend_rows", "The rows of resend, in order.", vec![rows_of_resend()]);
     let mut of = |tables: &[Vec<u8>]| tables.iter().map(|table| resends(&mut rng, table)).collect();
-    file.group("resendMade", "Resend on the tables that the runs left.", of(&made));
-    file.group("resendUnmade", "Resend on the well laid tables that no run makes.", of(&unmade));
+    file.group("resend_made", "Resend on the tables that the runs left.", of(&made));
+    file.group("resend_unmade", "Resend on the well laid tables that no run makes.", of(&unmade));
     file.group("saved", "Processes that fail at their counts go back.", vec![just_saved()]);
     assert_eq!(file.met, numbers(), "the numbers that are met");
     file.text

@@ -13,18 +13,16 @@ const MOST_INPUTS: usize = 60;
 const HEAD: &str = "\
 -- Vectors for the text program. Generated: `cargo run -p vectors -- text` in tests/ prints this file. Every output below comes from the
 -- reference in tests/reference, which shares nothing with the definition that is tried here.
-use mathlib.Core.Path.{_≡_, refl}
-use mathlib.Core.List.{List, [], _∷_, map}
-use Prim.Native.Nat.{ℕ}
-use lib.Count.{ones, onesIn}
-use Rattle·xdr.specs.Words.{word, putWord, putWords}
-use Rattle·rules.specs.Table.{layout, decoded, wellLaid}
-use Rattle·rules.specs.FailureLine.{round, rounds, failureLine}
-use Rattle·rules.specs.Calls.{failureAnswer, freshOn, stepOn, lineOn, failedOn}
-use Rattle·rules.specs.Text.{textOutput, readLine}
+use Rattle.std.specs.Prelude.{◌≡◌, refl, List, [], ◌∷◌, map, ℕ}
+use Rattle.std.specs.Int.Count.{ones, ones_in}
+use Rattle.xdr.specs.Words.{word, put_word, put_words}
+use Rattle.rules.specs.Table.{layout, decoded, well_laid}
+use Rattle.rules.specs.FailureLine.{round, rounds, failure_line}
+use Rattle.rules.specs.Calls.{failure_answer, fresh_on, step_on, line_on, failed_on}
+use Rattle.rules.specs.Text.{text_output, read_line}
 ";
 
-const UNFOLDING: &str = "unfolding textOutput readLine freshOn stepOn lineOn failedOn layout decoded wellLaid word putWord putWords failureAnswer failureLine rounds round ones onesIn";
+const UNFOLDING: &str = "unfolding text_output read_line fresh_on step_on line_on failed_on layout decoded well_laid word put_word put_words failure_answer failure_line rounds round ones ones_in";
 
 /// The start of a definition and its list of lists of bytes.
 fn bytes_of_each(start: &str, texts: &[Vec<u8>]) -> String {
@@ -54,10 +52,10 @@ impl File {
     fn group(&mut self, name: &str, note: &str, inputs: &[Vec<u8>]) {
         let outputs: Vec<Vec<u8>> = inputs.iter().map(|input| run_text(input)).collect();
         let given = bytes_of_each(&format!("{name} ="), inputs);
-        let wanted = bytes_of_each(&format!("{name}-outputs ="), &outputs);
+        let wanted = bytes_of_each(&format!("{name}_outputs ="), &outputs);
         self.text += &format!(
-            "\n-- {note}\nabbrev {name} : List (List ℕ)\n{given}\n\nabbrev {name}-outputs : List (List ℕ)\n{wanted}\n\n\
-             pub {name}-agree : map textOutput {name} ≡ {name}-outputs\n{UNFOLDING}\n{name}-agree = refl\n"
+            "\n-- {note}\nabbrev {name} : List (List ℕ)\n{given}\n\nabbrev {name}_outputs : List (List ℕ)\n{wanted}\n\n\
+             pub {name}_agree : map text_output {name} ≡ {name}_outputs\n{UNFOLDING}\n{name}_agree = refl\n"
         );
         self.inputs += inputs.len();
         self.bytes += inputs.iter().map(Vec::len).sum::<usize>();

@@ -1,5 +1,5 @@
 use mathlib.Core.List.{◌∷◌}
-use mathlib.Core.Path.{◌∙◌, ap}
+use mathlib.Core.Path.{ap}
 use Prim.Native.Nat.{ℕ}
 use native.Mathlib.Omega.{arith}
 use lib.ListN.{length-set}
@@ -14,10 +14,10 @@ put-requires c = let a = c.args in
 
 pub returns-then-i-count : goal.returns-then-i-count
 returns-then-i-count c = let comma = appended_byte c.args.out.now c.args.at 44 (omega (arith, c.requires.0)) in (
-      field_word _ _ _ c.if-i-count.true
-          (appended_as (ap (λ (v : ℕ). 44 ∷ decimal v) c.get.ensures) (appended_both comma c.put.ensures.0)),
-      omega (arith, c.put.ensures.1),
-    )
+  field_word _ _ _ c.if-i-count.true
+      (appended_as (ap (λ (v : ℕ). 44 ∷ decimal v) c.get.ensures) (appended_both comma c.put.ensures.0)),
+  omega (arith, c.put.ensures.1),
+)
 
 pub returns : goal.returns
 returns c = (field_empty _ _ _ c.if-i-count.false (appended_byte c.args.out.now _ 44 (omega (arith, c.requires.0))), omega arith)

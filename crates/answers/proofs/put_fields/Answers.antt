@@ -1,17 +1,15 @@
-use Prim.Native.Nat.{◌-◌}
 use native.Mathlib.Omega.{arith}
-use Rattle.answers.proofs.Fields.{Written, written_starts, written_on, written_all}
-use Rattle.answers.specs.Shows.{shown}
+use Rattle.answers.proofs.Fields.{written_starts, written_on, written_all}
 use Rattle.answers.proofs.put_fields.Goals as goal
 
 pub loop-i-init : goal.loop-i-init
 loop-i-init c = written_starts c.args.out.now c.args.at _ _
 
 pub put_field-to-requires : goal.put_field-to-requires
-put_field-to-requires c =  (
-      omega (arith, c.loop-i.invariant.2, c.loop-i.invariant.1.room, c.loop-i-test.true, c.requires.0, c.requires.1),
-      c.requires.2,
-    )
+put_field-to-requires c = (
+  omega (arith, c.loop-i.invariant.2, c.loop-i.invariant.1.room, c.loop-i-test.true, c.requires.0, c.requires.1),
+  c.requires.2,
+)
 
 pub loop-i-smaller : goal.loop-i-smaller
 loop-i-smaller c = omega (arith, c.loop-i-test.true)

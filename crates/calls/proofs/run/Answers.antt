@@ -3,9 +3,8 @@ use mathlib.Core.Path.{refl, sym}
 use Prim.Native.Nat.{◌+◌, ◌*◌}
 use native.Mathlib.Omega.{arith}
 use lib.Seq.{length-take-le}
-use Rattle.rules.specs.Calls.{step_on, line_on, failed_on}
-use Rattle.rules.specs.Steps.{checkpoint, send, receipt}
-use Rattle.calls.proofs.Calls.{ran_as, area_length_lem, shows_called, shows_none}
+use Rattle.rules.specs.Calls.{line_on, failed_on}
+use Rattle.calls.proofs.Calls.{ran_as, area_length_lem, shows_called}
 use Rattle.calls.proofs.run.Goals as goal
 
 pub slice_bounds-ckpt_checkpoint-end : goal.slice_bounds-ckpt_checkpoint-end

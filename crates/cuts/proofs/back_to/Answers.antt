@@ -1,9 +1,7 @@
 use borrow.Author.Rules.{rules}
-use Prim.Native.Nat.{◌≤◌}
 use mathlib.Core.Path.{◌≡◌, refl, ap}
 use native.Mathlib.Omega.{arith}
 use Rattle.rules.specs.FailureLine.{last_saved}
-use Rattle.rules.specs.Records.{sends as sends_of}
 use Rattle.rules.specs.Table.{records_at}
 use Rattle.xdr.specs.Words.{word}
 use Rattle.cuts.proofs.Scanned.{back_more, back_next, back_done, sends_back}

@@ -1,11 +1,7 @@
 use borrow.Author.Rules.{rules}
-use Prim.Native.Nat.{◌≤◌, ◌-◌}
-use mathlib.Core.Bool.{false}
 use mathlib.Core.Path.{◌≡◌, refl, sym, ◌∙◌}
 use native.Mathlib.Omega.{arith}
 use Rattle.cuts.specs.Tests.{late}
-use Rattle.rules.specs.FailureLine.{any}
-use Rattle.rules.specs.Table.{records_at}
 use Rattle.xdr.specs.Words.{word}
 use Rattle.cuts.proofs.Scanned.{none_next, first_none, first_found, late_event}
 use Rattle.cuts.proofs.first_late.Goals as goal

@@ -1,12 +1,8 @@
 use borrow.Author.Rules.{rules}
-use Prim.Native.Nat.{◌≤◌, ◌-◌}
-use mathlib.Core.Bool.{false}
 use mathlib.Core.Path.{◌≡◌, refl, sym, ◌∙◌}
 use native.Mathlib.Omega.{arith}
 use lib.ListN.{length}
 use Rattle.cuts.specs.Tests.{unsent}
-use Rattle.rules.specs.FailureLine.{any}
-use Rattle.rules.specs.Table.{records_at}
 use Rattle.xdr.specs.Words.{word}
 use Rattle.cuts.proofs.Scanned.{none_next, first_none, first_found, unsent_event, note_inside}
 use Rattle.cuts.proofs.first_unsent.Goals as goal

@@ -1,7 +1,7 @@
 use borrow.Author.Rules.{rules}
 use native.Mathlib.Omega.{arith}
 use mathlib.Core.Path.{refl, ◌≡◌, ◌∙◌, ap}
-use Prim.Native.Nat.{◌-◌, ◌≤◌, ◌%◌}
+use Prim.Native.Nat.{◌%◌}
 use Rattle.cuts.specs.Notes.{struck}
 use Rattle.rules.specs.Table.{records_at}
 use Rattle.xdr.specs.Words.{word}

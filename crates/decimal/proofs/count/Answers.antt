@@ -1,9 +1,8 @@
 use borrow.Author.Rules.{rules}
 use borrow.Author.Tests.{le-leb, lt-leb}
-use Prim.Native.Nat.{◌-◌}
 use native.Mathlib.Nat.{not-suc-le-zero, le_of_suc-le-suc}
 use native.Mathlib.Omega.{arith}
-use Rattle.decimal.proofs.Digits.{AtLeast, counted_on, counted, counted_ten}
+use Rattle.decimal.proofs.Digits.{counted_on, counted, counted_ten}
 use Rattle.decimal.proofs.count.Goals as goal
 
 pub loop-k-init : goal.loop-k-init

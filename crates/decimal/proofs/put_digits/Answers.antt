@@ -1,6 +1,5 @@
 use native.Mathlib.Omega.{arith}
-use Rattle.rules.specs.Text.{decimal}
-use Rattle.decimal.proofs.Digits.{Spelling, spelling_starts, spelling_on, spelling_ends}
+use Rattle.decimal.proofs.Digits.{spelling_starts, spelling_on, spelling_ends}
 use Rattle.decimal.proofs.put_digits.Goals as goal
 
 pub loop-i-init : goal.loop-i-init

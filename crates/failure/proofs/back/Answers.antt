@@ -1,12 +1,11 @@
 use borrow.Author.Rules.{rules}
-use Prim.Native.Nat.{◌-◌, ◌≤◌}
 use mathlib.Core.Path.{◌≡◌, refl, ap, ◌∙◌}
 use native.Mathlib.Omega.{arith}
 use lib.ListN.{length}
 use Rattle.tops.proofs.Starts.{processes}
 use Rattle.rules.specs.Lines.{goes_back_at, mask_below}
 use Rattle.rules.specs.Table.{decoded}
-use Rattle.failure.proofs.FailureLine.{Found, found_next}
+use Rattle.failure.proofs.FailureLine.{found_next}
 use Rattle.failure.proofs.back.Goals as goal
 
 pub loop-p-init : goal.loop-p-init

@@ -1,7 +1,5 @@
-use Prim.Native.Nat.{◌-◌}
 use native.Mathlib.Omega.{arith}
-use lib.ListN.{length}
-use Rattle.fields.proofs.Texts.{NoComma, no_comma_starts, no_comma_on, comma_found, line_found}
+use Rattle.fields.proofs.Texts.{no_comma_starts, no_comma_on, comma_found, line_found}
 use Rattle.fields.proofs.end.Goals as goal
 
 pub loop-i-init : goal.loop-i-init

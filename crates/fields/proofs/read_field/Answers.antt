@@ -1,8 +1,7 @@
 use mathlib.Core.Path.{refl, ◌∙◌, sym}
-use Prim.Native.Nat.{◌-◌}
 use native.Mathlib.Omega.{arith}
-use lib.ListN.{length, get_or}
-use Rattle.fields.proofs.Texts.{Valued, valued_small, valued_on, valued_not, digit_bounds, field_none, field_long, field_large, field_number, some_length}
+use lib.ListN.{get_or}
+use Rattle.fields.proofs.Texts.{valued_small, valued_on, valued_not, digit_bounds, field_none, field_long, field_large, field_number, some_length}
 use Rattle.fields.proofs.read_field.Goals as goal
 
 pub returns-then-s-eq0 : goal.returns-then-s-eq0

@@ -1,8 +1,6 @@
 use mathlib.Core.Path.{refl}
-use Prim.Native.Nat.{◌-◌}
 use native.Mathlib.Omega.{arith}
-use lib.ListN.{length}
-use Rattle.fields.proofs.Texts.{Matched, matched_on, matched_not, matched_all, same_length}
+use Rattle.fields.proofs.Texts.{matched_on, matched_not, matched_all, same_length}
 use Rattle.fields.proofs.same.Goals as goal
 
 pub returns-then-s-t : goal.returns-then-s-t

@@ -1,9 +1,8 @@
 use borrow.Author.Rules.{rules}
-use Prim.Native.Nat.{◌-◌, ◌≤◌}
-use mathlib.Core.List.{◌++◌, append-nil}
+use mathlib.Core.List.{append-nil}
 use mathlib.Core.Path.{◌≡◌, ap, ◌∙◌}
 use native.Mathlib.Omega.{arith}
-use lib.ListN.{length, length-set, replicate, drop, set}
+use lib.ListN.{length, length-set, set}
 use lib.Seq.{drop-length}
 use borrow.Author.Fill.{fill_none, fill_more}
 use Rattle.layout.proofs.erase.Goals as goal

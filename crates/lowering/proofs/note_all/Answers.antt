@@ -1,10 +1,9 @@
 use borrow.Author.Rules.{rules}
-use Prim.Native.Nat.{◌+◌, ◌*◌, ◌-◌, ◌≤◌}
+use Prim.Native.Nat.{◌+◌}
 use mathlib.Core.Path.{◌≡◌, refl, ◌∙◌, subst}
 use native.Mathlib.Nat.{mul-le-mul_right}
 use native.Mathlib.Omega.{arith}
-use lib.ListN.{length}
-use Rattle.lowering.specs.Lowering.{Noted, Blank}
+use Rattle.lowering.specs.Lowering.{Noted}
 use Rattle.rules.specs.Table.{decoded}
 use Rattle.lowering.proofs.Notes.{note_turn}
 use Rattle.tops.proofs.Starts.{section}

@@ -1,8 +1,7 @@
 use borrow.Author.Rules.{rules}
-use Prim.Native.Nat.{◌-◌, ◌≤◌}
 use mathlib.Core.Path.{◌≡◌, ◌∙◌, subst}
 use native.Mathlib.Omega.{arith}
-use Rattle.lowering.specs.Lowering.{NoneAlways, Pruned}
+use Rattle.lowering.specs.Lowering.{NoneAlways}
 use Rattle.rules.specs.Table.{decoded}
 use Rattle.lowering.proofs.Cuts.{lowered_refl}
 use Rattle.lowering.proofs.Notes.{always_step}

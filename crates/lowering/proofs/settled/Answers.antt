@@ -1,9 +1,7 @@
-use Prim.Native.Nat.{◌+◌, ◌-◌, ◌*◌}
 use mathlib.Core.Path.{◌∙◌}
 use native.Mathlib.Omega.{arith}
 use Rattle.rules.specs.Table.{decoded}
-use Rattle.lowering.proofs.Cuts.{total}
-use Rattle.lowering.proofs.Steps.{Quiet, quiet_start, quiet_done, quiet_next, quiet_less, late_step}
+use Rattle.lowering.proofs.Steps.{quiet_start, quiet_done, quiet_next, quiet_less, late_step}
 use Rattle.tops.proofs.Starts.{view}
 use Rattle.lowering.proofs.settled.Goals as goal
 

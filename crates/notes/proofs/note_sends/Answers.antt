@@ -1,8 +1,7 @@
 use borrow.Author.Rules.{rules}
 use native.Mathlib.Omega.{arith}
-use mathlib.Core.Path.{refl, ◌≡◌, ◌∙◌}
-use Rattle.notes.specs.Noted.{Group, Left}
-use Prim.Native.Nat.{◌-◌, ◌≤◌, ◌<◌, ◌+◌}
+use mathlib.Core.Path.{refl, ◌∙◌}
+use Prim.Native.Nat.{◌+◌}
 use Rattle.rules.specs.Table.{decoded, heading}
 use Rattle.xdr.specs.Words.{words, word}
 use lib.ListN.{length}

@@ -1,8 +1,8 @@
 use borrow.Author.Rules.{rules}
 use native.Mathlib.Omega.{arith}
 use mathlib.Core.Path.{refl, ◌≡◌, subst, ap, ◌∙◌}
-use Rattle.notes.specs.Noted.{Left, Group}
-use Prim.Native.Nat.{◌-◌, ℕ, ◌≤◌, ◌<◌, ◌+◌}
+use Rattle.notes.specs.Noted.{Left}
+use Prim.Native.Nat.{◌<◌, ◌+◌}
 use Rattle.rules.specs.Table.{decoded, records_at, heading}
 use Rattle.xdr.specs.Words.{words, word}
 use lib.ListN.{length}

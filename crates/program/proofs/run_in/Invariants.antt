@@ -1,7 +1,6 @@
-use Rattle.std.proofs.Common.{◌≡◌, ◌*◌, ◌≤◌, length, false}
+use Rattle.std.proofs.Common.{◌*◌, ◌≤◌, length}
 use Rattle.answers.specs.Shows.{answer_room}
 use Rattle.session.specs.Session.{Ready}
-use Rattle.replies.specs.Replies.{is_ended}
 use Rattle.program.proofs.run_in.Given as goal
 
 abbrev pub invariant-loop-turns : goal.invariant-loop-turns

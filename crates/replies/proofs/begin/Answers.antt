@@ -25,10 +25,10 @@ slice_bounds-ckpt_fresh-end-2 c = let a = c.args in
 
 pub put_answer-written-requires : goal.put_answer-written-requires
 put_answer-written-requires c = let a = c.args in (
-      (in_range_lem a.n a.e c.requires.0).1,
-      c.requires.2,
-      (shows_none c.ckpt_fresh-r.result [] (0 ∷ 0 ∷ 0 ∷ 0 ∷ []) c.told.result refl c.told.ensures).within,
-    )
+  (in_range_lem a.n a.e c.requires.0).1,
+  c.requires.2,
+  (shows_none c.ckpt_fresh-r.result [] (0 ∷ 0 ∷ 0 ∷ 0 ∷ []) c.told.result refl c.told.ensures).within,
+)
 
 pub returns : goal.returns
 returns c = let a = c.args in

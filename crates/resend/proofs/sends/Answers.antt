@@ -1,7 +1,6 @@
 use borrow.Author.Rules.{rules}
 use native.Mathlib.Omega.{arith}
 use mathlib.Core.Path.{refl, ◌≡◌, ◌∙◌, ap}
-use Prim.Native.Nat.{◌-◌, ◌≤◌, ◌*◌}
 use Rattle.transit.specs.Transit.{sends_below}
 use Rattle.rules.specs.Table.{decoded}
 use Rattle.tops.proofs.Starts.{section}

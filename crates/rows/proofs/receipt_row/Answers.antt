@@ -5,10 +5,10 @@ use Rattle.rows.proofs.receipt_row.Goals as goal
 
 pub returns-then-row-ne0 : goal.returns-then-row-ne0
 returns-then-row-ne0 c = let a = c.args in (
-      receipt_stopped a.t.now a.p a.q a.k a.len c.pair_row-row.ensures c.if-row-ne0.true,
-      λ z. absurd
-          (c.if-row-ne0.true z),
-    )
+  receipt_stopped a.t.now a.p a.q a.k a.len c.pair_row-row.ensures c.if-row-ne0.true,
+  λ z. absurd
+      (c.if-row-ne0.true z),
+)
 
 pub get_usize-e-requires : goal.get_usize-e-requires
 get_usize-e-requires c = let a = c.args in

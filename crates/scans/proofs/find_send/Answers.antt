@@ -1,10 +1,9 @@
 use borrow.Author.Rules.{rules}
-use Prim.Native.Nat.{◌-◌, ◌≤◌, ◌<◌}
+use Prim.Native.Nat.{◌-◌}
 use mathlib.Core.Path.{◌≡◌}
 use mathlib.Core.Logic.{inr}
 use native.Mathlib.Omega.{arith}
 use Rattle.xdr.specs.Words.{word}
-use Rattle.rules.specs.Records.{sends}
 use Rattle.rules.specs.Table.{records_at}
 use Rattle.scans.proofs.Found.{send_none, send_later, send_beyond, send_within, send_found, send_passed}
 use Rattle.scans.proofs.find_send.Goals as goal
@@ -30,10 +29,10 @@ returns-then-get_usize-k c = let a = c.args in
 
 pub loop-i-preserved : goal.loop-i-preserved
 loop-i-preserved c = let a = c.args in (
-      send_passed (word a.t.now) a.at c.loop-i.i a.k c.get_usize.ensures.0 c.get_usize-in-loop-i.ensures.0
-          c.loop-i-test.true c.requires.2 c.loop-i.invariant.0 c.if-get_usize-k.false,
-      search rules,
-    )
+  send_passed (word a.t.now) a.at c.loop-i.i a.k c.get_usize.ensures.0 c.get_usize-in-loop-i.ensures.0
+      c.loop-i-test.true c.requires.2 c.loop-i.invariant.0 c.if-get_usize-k.false,
+  search rules,
+)
 
 pub returns : goal.returns
 returns c = let loop = c.loop-i in

@@ -1,13 +1,8 @@
 use borrow.Author.Rules.{rules}
-use Prim.Native.Nat.{◌-◌, ◌≤◌}
 use mathlib.Core.Path.{◌≡◌}
-use mathlib.Core.Bool.{false, ◌||◌}
 use native.Mathlib.Omega.{arith}
-use lib.Dec.{eqb}
 use borrow.Author.Tests.{lt-leb}
 use Rattle.xdr.specs.Words.{word}
-use Rattle.rules.specs.Table.{records_at}
-use Rattle.records.proofs.NumberedLines.{reached}
 use Rattle.scans.proofs.Found.{position_initial, position_low, position_message, position_found, position_none}
 use Rattle.scans.proofs.position.Goals as goal
 

@@ -1,10 +1,7 @@
-use mathlib.Core.Path.{◌≡◌, refl, ◌∙◌, sym}
-use Prim.Native.Nat.{◌-◌}
+use mathlib.Core.Path.{refl}
 use native.Mathlib.Omega.{arith}
-use lib.ListN.{length, take}
 use lib.Seq.{length-take-le}
 use Rattle.text.proofs.Sessions.{took_none, took_next, took_chunk}
-use Rattle.session.specs.Session.{Took}
 use Rattle.text.proofs.feed.Goals as goal
 
 pub loop-i-init : goal.loop-i-init

@@ -1,7 +1,6 @@
 use borrow.Author.Rules.{rules}
 use native.Mathlib.Omega.{arith}
 use mathlib.Core.Path.{refl, ◌≡◌, ap, ◌∙◌, sym}
-use Prim.Native.Nat.{◌-◌, ◌≤◌}
 use lib.ListN.{length}
 use Rattle.rules.specs.Resend.{transit_below}
 use Rattle.rules.specs.Table.{decoded}

@@ -1,7 +1,7 @@
 use borrow.Author.Rules.{rules}
 use native.Mathlib.Omega.{arith}
 use mathlib.Core.Path.{refl, ◌≡◌, ◌∙◌, ap}
-use Prim.Native.Nat.{◌-◌, ◌+◌, ◌*◌, ◌≤◌}
+use Prim.Native.Nat.{◌-◌, ◌+◌, ◌*◌}
 use Rattle.xdr.specs.Words.{put_words}
 use lib.ListN.{length}
 use Rattle.transit.specs.Transit.{marked_of}

@@ -1,7 +1,6 @@
 use borrow.Author.Rules.{rules}
 use native.Mathlib.Omega.{arith}
 use mathlib.Core.Path.{refl, ◌≡◌, ◌∙◌, ap}
-use Prim.Native.Nat.{◌-◌, ◌≤◌}
 use Rattle.transit.specs.Transit.{marks}
 use Rattle.transit.proofs.Marked.{marks_next}
 use Rattle.transit.proofs.marks.Goals as goal

@@ -1,7 +1,5 @@
 use borrow.Author.Rules.{rules}
-use Prim.Native.Nat.{◌-◌, ◌≤◌}
 use mathlib.Core.Path.{◌≡◌, refl, sym, ap, ◌∙◌}
-use mathlib.Core.Bool.{true}
 use native.Mathlib.Omega.{arith}
 use Rattle.xdr.specs.Words.{word}
 use Rattle.rules.specs.Table.{start}
@@ -30,11 +28,11 @@ overflow_add-at-in-loop-p c = let a = c.args in
 
 pub loop-p-preserved : goal.loop-p-preserved
 loop-p-preserved c = let a = c.args in (
-      every_next (λ q. rear_ok a.e (word a.t.now) (start a.e q)) c.loop-p.p c.loop-p.invariant.0
-          (c.rear.ensures ∙ ap (rear_ok a.e (word a.t.now)) c.loop-p.invariant.1) c.if-rear-ne0.false,
-      omega arith,
-      search rules,
-    )
+  every_next (λ q. rear_ok a.e (word a.t.now) (start a.e q)) c.loop-p.p c.loop-p.invariant.0
+      (c.rear.ensures ∙ ap (rear_ok a.e (word a.t.now)) c.loop-p.invariant.1) c.if-rear-ne0.false,
+  omega arith,
+  search rules,
+)
 
 pub returns : goal.returns
 returns c = let loop = c.loop-p in

@@ -1,9 +1,6 @@
-use Prim.Native.Nat.{◌+◌, ◌-◌, ◌*◌, ◌≤◌}
-use mathlib.Core.Path.{◌≡◌}
+use Prim.Native.Nat.{◌+◌, ◌*◌}
 use native.Mathlib.Omega.{arith}
-use lib.Dec.{eqb}
 use Rattle.xdr.specs.Words.{word}
-use Rattle.rules.specs.Table.{zeros_at}
 use Rattle.unused.proofs.Zeros.{zeros_none, zeros_next, zeros_records}
 use Rattle.unused.proofs.unused.Goals as goal
 

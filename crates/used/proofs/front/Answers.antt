@@ -1,4 +1,4 @@
-use Rattle.std.proofs.Common.{◌≡◌, ◌+◌, arith, rules}
+use Rattle.std.proofs.Common.{◌≡◌, ◌+◌, arith}
 use Rattle.xdr.specs.Words.{word}
 use Rattle.used.proofs.Headings.{front_fold}
 use Rattle.used.proofs.front.Goals as goal

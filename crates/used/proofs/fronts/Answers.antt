@@ -1,5 +1,5 @@
 use borrow.Author.Rules.{rules}
-use Rattle.std.proofs.Common.{◌≡◌, ℕ, ◌-◌, ◌≤◌, true, sym, refl, ap, ◌∙◌, subst, arith, rules}
+use Rattle.std.proofs.Common.{◌≡◌, ℕ, ◌≤◌, sym, refl, ap, ◌∙◌, subst, arith, rules}
 use Rattle.xdr.specs.Words.{word}
 use Rattle.rules.specs.Table.{start}
 use Rattle.tables.specs.Sections.{every, front_ok}
@@ -34,11 +34,11 @@ overflow_add-at-in-loop-p c = let a = c.args in
 
 pub loop-p-preserved : goal.loop-p-preserved
 loop-p-preserved c = let a = c.args in (
-      every_next (λ q. front_ok a.n a.e (word a.t.now) q (start a.e q)) c.loop-p.p c.loop-p.invariant.0
-          (c.front.ensures ∙ ap (front_ok a.n a.e (word a.t.now) c.loop-p.p) c.loop-p.invariant.1) c.if-front-ne0.false,
-      omega arith,
-      search rules,
-    )
+  every_next (λ q. front_ok a.n a.e (word a.t.now) q (start a.e q)) c.loop-p.p c.loop-p.invariant.0
+      (c.front.ensures ∙ ap (front_ok a.n a.e (word a.t.now) c.loop-p.p) c.loop-p.invariant.1) c.if-front-ne0.false,
+  omega arith,
+  search rules,
+)
 
 pub returns : goal.returns
 returns c = let loop = c.loop-p in

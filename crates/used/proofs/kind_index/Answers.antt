@@ -1,5 +1,4 @@
 use Rattle.used.proofs.Marks.{kind_below}
-use Rattle.std.proofs.Common.{rules}
 use Rattle.used.proofs.kind_index.Goals as goal
 
 -- src/lib.rt:40:1

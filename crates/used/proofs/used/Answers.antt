@@ -1,5 +1,5 @@
 use borrow.Author.Rules.{rules}
-use Rattle.std.proofs.Common.{◌≡◌, ℕ, ◌+◌, ◌-◌, ◌*◌, ◌≤◌, refl, subst, arith, rules}
+use Rattle.std.proofs.Common.{◌≡◌, ℕ, ◌+◌, ◌*◌, refl, subst, arith, rules}
 use Rattle.xdr.specs.Words.{word}
 use Rattle.rules.specs.Table.{width}
 use Rattle.used.specs.Marks.{kind_index, Found}
