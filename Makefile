@@ -75,7 +75,7 @@ sizes: lib
 bench: lib
 	@tests/bench.sh
 
-# proves every crate from nothing, tries the must-fail edits, and runs the tests from outside
+# proves every crate, tries the must-fail edits, and runs the tests from outside
 test:
 	tests/all.sh
 

@@ -1,6 +1,6 @@
 #!/usr/bin/env bash
-# The whole test: `rt ci` from nothing, then the tests from outside. The last line counts both, 'N passed, M failed', and the
-# status is 0 where M is 0.
+# The whole test: `rt ci`, which proves again what has changed since it last passed on this machine, then the tests from outside. The
+# last line counts both, 'N passed, M failed', and the status is 0 where M is 0.
 set -uo pipefail
 cd "$(dirname "$0")/.." || exit 2
 

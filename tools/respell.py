@@ -1,14 +1,17 @@
 #!/usr/bin/env python3
 """Brings the repository's own names of definitions and lemmas to one spelling: types and facts in upper camel case, every other name in
-snake case. Run once, at the top, right after port.py.
+snake case, and a lemma that would have its definition's name with `_lem` behind it. Run once, at the top, right after port.py: later,
+where no Proof.antt is left, it stops, since it would take names of goals for the repository's own.
 
-It takes the names that specs/ and proofs/ declare or bind, and turns them where they stand in .antt, .rt and .edit files. Names that a
-file imports from a library stay, and so do the names of a function's goals in its Proof.antt.
+It takes the names that specs/ and proofs/ declare or bind, and turns them where they stand in .antt, .rt and .edit files, in comments
+between backticks or in camel case. Names that a file imports from a library stay, and so do the names of a function's goals in its
+Proof.antt.
 """
 
 import collections
 import glob
 import re
+import sys
 
 TOKEN = re.compile(r"[^\s(){}\[\],;.:`\"←λ⌜⌝|]+")
 DECLARED = re.compile(r"^\s*(?:(?:pub|abbrev|unfoldable|data|record)\s+)*([^\s:(){}]+)(?: [({].*?[)}])* :(?: |$)")
@@ -42,6 +45,8 @@ def library(line):
 def main():
     antt = sorted(glob.glob("crates/*/specs/**/*.antt", recursive=True) + glob.glob("crates/*/proofs/**/*.antt", recursive=True))
     rest = sorted(glob.glob("crates/*/src/*.rt") + glob.glob("crates/*/must-fail/*.edit"))
+    if not any(map(hand, antt)):
+        sys.exit("respell: no Proof.antt is left, so the names have been turned already")
     own, libs = collections.defaultdict(set), set()
     for path in antt + rest:
         for line in open(path, encoding="utf-8"):

@@ -1,6 +1,6 @@
 -- Document 02, slip 5: whether some run leaves a table's bytes, computed: the calls that its records name are made once more, each process
 -- as far as it goes, and what they leave is compared with it. What the document says is MadeByCalls in Lists.antt, and that alone has to be
--- believed: `audited-made` (theorems) shows that this computes it.
+-- believed; that this computes it is still to be shown.
 use Rattle.std.specs.Prelude.{Bool, not, cond, List, [], ◌∷◌, ◌++◌, map, ℕ, zero, suc, eqb, length, replicate}
 use Rattle.std.proofs.Math.Option.{Option, none, some}
 use Rattle.xdr.specs.Words.{word}
