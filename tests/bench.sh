@@ -39,6 +39,7 @@ results() {
     echo "- date: $(date -u +%F)"
     echo "- processor: ${processor:-unknown}, $(uname -m)"
     echo "- C compiler: $(${CC:-cc} --version | head -n 1), -O3"
+    echo "- toolchain: $(rt version)"
     "$program"
 }
 
