@@ -1,7 +1,7 @@
 #!/usr/bin/env bash
 # The tests from outside, to be run once `rt ci` has passed: they link the archive of the proved engine, start the proved text
-# program, and run both beside the reference engine. Writes under target/ and into a temporary folder that it removes. The last line
-# is 'N passed, M failed', and the status is 0 where M is 0.
+# program, and run both beside the reference engine. Writes under target/, the out/ of the crates that it
+# builds, and a temporary folder that it removes. The last line is 'N passed, M failed', and the status is 0 where M is 0.
 set -uo pipefail
 cd "$(dirname "$0")/.." || exit 2
 
