@@ -1,13 +1,11 @@
 -- The two parts of the sections' test put together.
 use mathlib.Core.Path.{◌≡◌, refl, sym, ap, ◌∙◌}
-use mathlib.Core.Logic.{◌≢◌}
 use mathlib.Core.Bool.{Bool, true, false, ◌&&◌, and-eq-true_iff, false≢true, and_comm}
 use Prim.Native.Nat.{ℕ, zero, suc, ◌+◌, ◌-◌, ◌*◌, ◌≤◌, ◌<◌}
 use native.Mathlib.Nat.{mul-le-mul_right}
-use native.Mathlib.Numerals.{add-one}
 use lib.Dec.{eqb, leb}
 use native.Mathlib.Omega.{arith}
-use borrow.Author.Tests.{leb-true, eq-eqb, ne_eqb}
+use borrow.Author.Tests.{leb-true}
 use Rattle.rules.specs.Records.{number, sends}
 use Rattle.rules.specs.Table.{heading, width, start, zeros_at, sections_ok, section_ok, records_ok, records_at}
 use Rattle.tables.specs.Sections.{every, rear_ok, front_ok}
@@ -20,15 +18,12 @@ module _ (f : ℕ → Bool) where
   pub every_at : (m p : ℕ) → p < m → every f m ≡ true → f p ≡ true
   every_at m p lt e = each_below (every f) f (λ k. refl) m e p lt
 
-  pub every_next : (p : ℕ) {x : ℕ} → every f p ≡ true → eqb x 0 ≡ f p → x ≡ 0 → every f (p + 1) ≡ true
-  every_next p {x} e g z = rw (add-one p, e) (sym g ∙ eq-eqb x 0 z)
-
-  pub every_not : (m p : ℕ) → p < m → {x : ℕ} → eqb x 0 ≡ f p → x ≢ 0 → false ≡ every f m
-  every_not m p lt {x} g ne = go (test (every f m))
+  pub every_not : (m p : ℕ) → p < m → false ≡ f p → false ≡ every f m
+  every_not m p lt g = go (test (every f m))
     where
       go : Test (every f m) → false ≡ every f m
       go (fails h) = sym h
-      go (passes h) = absurd (false≢true (sym (ne_eqb x 0 ne) ∙ g ∙ every_at m p lt h))
+      go (passes h) = absurd (false≢true (g ∙ every_at m p lt h))
 
 pub rears_count : (e : ℕ) (w : ℕ → ℕ) (n p : ℕ) → p < n → every (λ q. rear_ok e w (start e q)) n ≡ true → w (start e p) ≤ e
 rears_count e w n p lt h =

@@ -124,23 +124,6 @@ all_at t i (v ∷ vs) s le (suc j) lt =
     ap (word (put_words (put_word t i v) (suc i) vs)) (let e : i + suc j ≡ suc i + j = omega arith in e)
     ∙ all_at (put_word t i v) (suc i) vs s.1 (let l = put_length t i v in omega arith) j (le_of_suc-le-suc lt)
 
-pub one_put : (t : List ℕ) (x : ℕ) {t₁ : List ℕ} → t₁ ≡ put_word t 0 x → t₁ ≡ put_words t 0 (x ∷ [])
-unfolding put_words
-one_put t x a = a
-
-pub two_puts : (t : List ℕ) (x y : ℕ) {t₁ t₂ : List ℕ} → t₁ ≡ put_word t 0 x → t₂ ≡ put_word t₁ 1 y → t₂ ≡ put_words t 0 (x ∷ y ∷ [])
-unfolding put_words
-two_puts t x y a b = rw (b, a)
-
-pub three_puts : (t : List ℕ) (i x y z : ℕ) {t₁ t₂ t₃ : List ℕ} → t₁ ≡ put_word t i x → t₂ ≡ put_word t₁ (i + 1) y
-    → t₃ ≡ put_word t₂ (i + 2) z
-    → t₃ ≡ put_words t i (x ∷ y ∷ z ∷ [])
-unfolding put_words
-three_puts t i x y z a b c =
-    let one : i + 1 ≡ suc i = omega arith in
-    let two : i + 2 ≡ suc (suc i) = omega arith in
-    rw (c, b, a, one, two)
-
 -- words put over the start of some bytes
 cons_puts : (x y z u : ℕ) (t : List ℕ) (i : ℕ) (vs : List ℕ) → put_words (x ∷ y ∷ z ∷ u ∷ t) (suc i) vs ≡ x ∷ y ∷ z ∷ u ∷ put_words t i vs
 unfolding put_word put_words
@@ -186,6 +169,23 @@ pub put_append : (t : List ℕ) (i : ℕ) (vs us : List ℕ) {j : ℕ} → j ≡
 unfolding put_words
 put_append t i [] us e = let z : _ ≡ i = e ∙ add-zero i in rw z
 put_append t i (v ∷ vs) us e = put_append (put_word t i v) (suc i) vs us (e ∙ (omega arith))
+
+-- one word more
+pub put_next : (t : List ℕ) (i j : ℕ) (ws : List ℕ) → j < length ws → {u v : List ℕ} → u ≡ put_words t i (take j ws)
+    → v ≡ put_word u (i + j) (get_or ws j 0)
+    → v ≡ put_words t i (take (j + 1) ws)
+unfolding put_words
+put_next t i j ws l a b =
+    let n : i + j ≡ i + length (take j ws) = ap (λ (m : ℕ). i + m) (sym (length-take-le j ws (omega arith))) in
+    b ∙ rw a (put_append t i (take j ws) (get_or ws j 0 ∷ []) n) ∙ ap (put_words t i) (sym (take-suc ws j 0 l) ∙ ap (λ (m : ℕ). take m ws) (sym (add-one j)))
+
+pub one_put : (t : List ℕ) (x : ℕ) {t₁ : List ℕ} → t₁ ≡ put_word t 0 x → t₁ ≡ put_words t 0 (x ∷ [])
+unfolding put_words
+one_put t x a = a
+
+pub two_puts : (t : List ℕ) (x y : ℕ) {t₁ t₂ : List ℕ} → t₁ ≡ put_word t 0 x → t₂ ≡ put_word t₁ 1 y → t₂ ≡ put_words t 0 (x ∷ y ∷ [])
+unfolding put_words
+two_puts t x y a b = rw (b, a)
 
 -- ---- a word for each number
 

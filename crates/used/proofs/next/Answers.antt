@@ -1,25 +1,18 @@
-use Rattle.std.proofs.Common.{◌/◌, arith}
+use Rattle.std.proofs.Common.{◌/◌, arith, refl}
 use Rattle.used.specs.Marks.{upper}
 use Rattle.used.proofs.Marks.{marks_next, sends_next}
 use Rattle.used.proofs.next.Goals as goal
 
-pub bounds-masks-i : goal.bounds-masks-i
-bounds-masks-i c = let i = c.kind_index-i.ensures.1 in
-    rw c.requires.2 (omega arith)
-
-pub bounds-masks-i-2 : goal.bounds-masks-i-2
-bounds-masks-i-2 c = let i = c.kind_index-i.ensures.1 in
-    rw c.requires.2 (omega arith)
-
 pub returns : goal.returns
 returns c = let a = c.args in
+    let l = a.limits.now in
     let i = c.kind_index-i in
     let k = c.wrapping_sub_usize-k in
-    let sent = sends_next a.kind i.ensures.0 c.requires.2 c.requires.3 (omega arith) k.ensures.value in (
-      marks_next a.kind i.ensures.0 c.requires.2 c.requires.3 (omega arith) k.ensures.value a.s.marks a.pair a.own (a.s.last / upper) a.c
-          a.room.now a.floor.now c.wrapping_add_usize-sum.ensures.value c.wrapping_sub_usize-difference.ensures.value c.wrapping_sub_usize-beyond.ensures.value
+    let sent = sends_next a.kind i.ensures.0 l.by_kind.2 c.requires (omega arith) k.ensures.value in (
+      marks_next a.kind i.ensures.0 l.by_kind.2 c.requires (omega arith) k.ensures.value a.s.marks a.pair a.own (a.s.last / upper) a.c
+          l.room l.floor c.wrapping_add_usize-sum.ensures.value c.wrapping_sub_usize-difference.ensures.value c.wrapping_sub_usize-beyond.ensures.value
           (omega arith) (omega arith) (omega arith) (omega arith) (omega arith) (omega arith)
-          (omega (arith, c.type_inv.floor i.result)),
+          (omega (arith, c.type_inv.limits)),
       rw i.ensures.0 at c.pick.ensures,
       sent,
     )

@@ -1,0 +1,26 @@
+-- What the words of records say.
+use Rattle.std.specs.Prelude.{ℕ, ◌+◌, ◌*◌}
+use Rattle.rules.specs.Records as records
+use Rattle.rules.specs.Table.{width, event_at, records_at}
+use Rattle.xdr.specs.Words.{word}
+use Rattle.events.specs.declared.Event.{Event}
+use Rattle.events.specs.declared.Event.TheVariants as event
+use Rattle.events.specs.declared.Records.{Records}
+
+-- the record that document 01 means by it; a send's own number and what it carries follow from the records before it
+abbrev pub meant : Event → records.Event
+meant (event.Basic m) = records.basic m
+meant (event.Forced m) = records.forced m
+meant (event.Sent q k c) = records.sent q
+meant (event.Received q k c) = records.received q k c
+
+-- the record at index i
+abbrev pub record_of : Records → ℕ → records.Event
+record_of r i = event_at (word r.bytes.now) (r.at + width * i)
+
+-- the first i records, and all of them, newest first
+abbrev pub first_of : Records → ℕ → records.History
+first_of r i = records_at (word r.bytes.now) r.at i
+
+abbrev pub held : Records → records.History
+held r = first_of r r.count
