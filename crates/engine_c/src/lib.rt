@@ -1,5 +1,5 @@
-// The calls that C makes (include/ckpt.h): those of engine, with the same clauses. An archive holds its own functions alone, so the
-// exports stand in a crate over the library.
+// The calls that C makes (include/ckpt.h): those of engine, whose refusals are numbers for C. An archive holds its own functions alone, so
+// the exports stand in a crate over the library.
 #![tactic(auto)]
 
 ghost use Rattle.std.specs.Prelude.{◌≡◌, []};
@@ -11,47 +11,47 @@ ghost use Rattle.rules.specs.Resend.{resend_on};
 pub extern "C" fn ckpt_fresh(table: &mut [u8], n: u32, e: u32) -> u32
     ensures { outcome result table.new [] ≡ fresh_on table.old n e }
 {
-    engine::ckpt_fresh(table, n, e)
+    refusals::returned(engine::ckpt_fresh(table, n, e))
 }
 
 #[unsafe(no_mangle)]
 pub extern "C" fn ckpt_checkpoint(table: &mut [u8], area: &mut [u8], p: u32) -> u32
     ensures { outcome result table.new area.new ≡ step_on table.old area.old p checkpoint }
 {
-    engine::ckpt_checkpoint(table, area, p)
+    refusals::returned(engine::ckpt_checkpoint(table, area, p))
 }
 
 #[unsafe(no_mangle)]
 pub extern "C" fn ckpt_send(table: &mut [u8], area: &mut [u8], p: u32, q: u32) -> u32
     ensures { outcome result table.new area.new ≡ step_on table.old area.old p (send q) }
 {
-    engine::ckpt_send(table, area, p, q)
+    refusals::returned(engine::ckpt_send(table, area, p, q))
 }
 
 #[unsafe(no_mangle)]
 pub extern "C" fn ckpt_receipt(table: &mut [u8], area: &mut [u8], p: u32, q: u32, k: u32) -> u32
     ensures { outcome result table.new area.new ≡ step_on table.old area.old p (receipt q k) }
 {
-    engine::ckpt_receipt(table, area, p, q, k)
+    refusals::returned(engine::ckpt_receipt(table, area, p, q, k))
 }
 
 #[unsafe(no_mangle)]
 pub extern "C" fn ckpt_line(table: &[u8], area: &mut [u8], number: u32) -> u32
     ensures { outcome result table.now area.new ≡ line_on table.now area.old number }
 {
-    engine::ckpt_line(table, area, number)
+    refusals::returned(engine::ckpt_line(table, area, number))
 }
 
 #[unsafe(no_mangle)]
 pub extern "C" fn ckpt_failed(table: &[u8], area: &mut [u8], mask: u32) -> u32
     ensures { outcome result table.now area.new ≡ failed_on table.now area.old mask }
 {
-    engine::ckpt_failed(table, area, mask)
+    refusals::returned(engine::ckpt_failed(table, area, mask))
 }
 
 #[unsafe(no_mangle)]
 pub extern "C" fn ckpt_resend(table: &[u8], positions: &[u8], area: &mut [u8]) -> u32
     ensures { outcome_with result table.now area.new positions.now ≡ resend_on table.now positions.now area.old }
 {
-    engine::ckpt_resend(table, positions, area)
+    refusals::returned(engine::ckpt_resend(table, positions, area))
 }
