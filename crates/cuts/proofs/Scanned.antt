@@ -8,7 +8,7 @@ use native.Mathlib.Numerals.{add-one}
 use native.Mathlib.Omega.{arith}
 use native.Mathlib.Decide.{dec_lt}
 use lib.Dec.{ltb, eqb}
-use lib.ListN.{length, get_or, set}
+use lib.ListN.{length, get_or}
 use borrow.Author.Tests.{ltb-true, ltb-false, le-ltb, eqb-true, eq-eqb, ne_eqb, not-false}
 use Rattle.rules.specs.Records.{Event, sends}
 use Rattle.rules.specs.Table.{width, event_at, records_at}
@@ -17,9 +17,8 @@ use Rattle.rules.specs.FailureLine.{last_saved, any, before}
 use Rattle.basics.proofs.Booleans.{Test, passes, fails, test, or_false, or_right, clash}
 use Rattle.records.proofs.Cuts.{last_le, before_all}
 use Rattle.tables.proofs.WellLaid.{records_length}
-use Rattle.tables.proofs.Scans.{event, second_only, sends_next}
+use Rattle.tables.proofs.Scans.{event, sends_next}
 use Rattle.cuts.specs.Tests.{late, note_index, unsent}
-use Rattle.cuts.specs.Notes.{note_of, noted}
 
 -- ---- what a record's words say
 
@@ -173,24 +172,9 @@ module _ (w : ℕ → ℕ) (at : ℕ) where
       rw (u, x, y, z)
       (sym (receipt_only (unsent E p to) w j (not (eqb (get_or to (note_index E (length to) (w (j + 1)) (w (j + 2))) 0) p)) (event (unsent E p to) w j refl)))
 
-  -- ---- notes
-
-  note_event : (i : ℕ) → note_of (event_at w i) ≡ cond (eqb (w i) 3) (w (i + 1) % 32) 16
-  note_event i = event note_of w i refl ∙ second_only (w i) (w (i + 1) % 32) 16
-
-  pub note_next : (from : ℕ) (to : List ℕ) (i : ℕ) {kind a k v : ℕ} {u : List ℕ} → kind ≡ w (at + width * i) → a ≡ w (at + width * i + 1)
-      → u ≡ noted from (records_at w at i) to → k ≡ sends (records_at w at i) → v ≡ cond (eqb kind 3) (a % 32) 16
-      → set u (from + k + 1) v ≡ noted from (records_at w at (i + 1)) to
-  note_next from to i x y h s e = rw (h, s, e, x, y, add-one i, note_event (at + width * i))
-
 pub note_inside : (E len q k : ℕ) → 0 < len → note_index E len q k < len
 note_inside E len q k l = go (test (ltb (q * E + k) len))
   where
     go : Test (ltb (q * E + k) len) → cond (ltb (q * E + k) len) (q * E + k) 0 < len
     go (passes x) = rw x (ltb-true (q * E + k) len x)
     go (fails x) = rw x l
-
--- what is noted is a byte
-pub note_small : (b : Bool) (a : ℕ) {v : ℕ} → v ≡ cond b (a % 32) 16 → v < 256
-note_small true a e = omega arith
-note_small false a e = omega arith
