@@ -7,8 +7,8 @@ ghost use Rattle.rules.specs.Records.{sends as sends_of};
 ghost use Rattle.rules.specs.Table.{width, records_at};
 ghost use Rattle.rules.specs.FailureLine.{last_saved, before};
 ghost use Rattle.cuts.specs.Tests.{late, note_index, unsent};
-ghost use Rattle.cuts.specs.Notes.{note_of, noted, place_of, Inside, struck};
-ghost use Rattle.events.specs.Events.{meant, held};
+ghost use Rattle.cuts.specs.Notes.{noted, place_of, Inside, struck};
+ghost use Rattle.events.specs.Events.{held};
 
 use events::{Event, Records};
 
@@ -103,16 +103,6 @@ pub fn first_unsent(t: &[u8], at: usize, c: usize, e: usize, p: u8, to: &[u8]) -
     c
 }
 
-// What is noted at the place of the next send once a record is read: its destination, 16 if it is no send.
-fn note_of(event: Event) -> u8
-    ensures { result ≡ note_of (meant event) }
-{
-    match event {
-        Event::Sent { to, .. } => (to % 32) as u8,
-        _ => 16,
-    }
-}
-
 // Notes from an index on where the sends go; how many there are.
 pub fn note(records: &Records, from: usize, to: &mut [u8]) -> usize
     requires { from + records.now.count < length to.old }
@@ -120,10 +110,13 @@ pub fn note(records: &Records, from: usize, to: &mut [u8]) -> usize
 {
     let mut k = 0;
     for i in 0..records.count {
-        let event = records.get(i);
-        to[from + k + 1] = note_of(event);
-        if let Event::Sent { .. } = event {
-            k += 1;
+        let next = from + k + 1;
+        match records.get(i) {
+            Event::Sent { to: q, .. } => {
+                to[next] = (q % 32) as u8;
+                k += 1;
+            }
+            _ => to[next] = 16,
         }
     }
     k
