@@ -2,13 +2,11 @@
 use mathlib.Core.Path.{◌≡◌, refl, sym, ap, ◌∙◌, subst}
 use mathlib.Core.Logic.{◌≢◌}
 use mathlib.Core.Bool.{Bool, true, false, not, cond, ◌||◌}
-use mathlib.Core.List.{List, [], ◌∷◌}
-use Prim.Native.Nat.{ℕ, zero, suc, ◌+◌, ◌-◌, ◌*◌, ◌%◌, ◌≤◌, ◌<◌, zero-le}
-use native.Mathlib.Numerals.{add-one}
+use mathlib.Core.List.{[], ◌∷◌}
+use Prim.Native.Nat.{ℕ, zero, suc, ◌+◌, ◌-◌, ◌*◌, ◌≤◌, ◌<◌, zero-le}
 use native.Mathlib.Omega.{arith}
 use native.Mathlib.Decide.{dec_lt}
 use lib.Dec.{ltb, eqb}
-use lib.ListN.{set}
 use borrow.Author.Tests.{ltb-true, ltb-false, le-ltb, eqb-true, eq-eqb, ne_eqb, not-false}
 use Rattle.rules.specs.Records.{Event, basic, forced, sent, received, History, sends}
 use Rattle.rules.specs.Table.{width, event_at, records_at}
@@ -17,8 +15,7 @@ use Rattle.rules.specs.FailureLine.{last_saved}
 use Rattle.basics.proofs.Booleans.{Test, passes, fails, test, or_false, clash}
 use Rattle.records.proofs.Cuts.{last_le}
 use Rattle.tables.proofs.WellLaid.{records_length}
-use Rattle.tables.proofs.Scans.{event, second_only, records_upto}
-use Rattle.cuts.specs.Notes.{note_of, noted}
+use Rattle.tables.proofs.Scans.{records_upto}
 
 -- its sends and those before it
 sends_one : (e : Event) (h : History) → sends (e ∷ h) ≡ sends (e ∷ []) + sends h
@@ -105,18 +102,3 @@ module _ (w : ℕ → ℕ) (at : ℕ) where
       let u : i ≡ suc j = omega arith in
       let z : k ≡ x + sends (records_at w at j) = y ∙ ap (λ q. sends (records_at w at q)) u ∙ sends_one (record_here j) (records_at w at j) ∙ ap (λ q. q + sends (records_at w at j)) (sym e) in
       (omega arith, omega arith)
-
-  -- ---- notes
-
-  note_event : (i : ℕ) → note_of (event_at w i) ≡ cond (eqb (w i) 3) (w (i + 1) % 32) 16
-  note_event i = event note_of w i refl ∙ second_only (w i) (w (i + 1) % 32) 16
-
-  pub note_next : (from : ℕ) (to : List ℕ) (i : ℕ) {kind a k v : ℕ} {u : List ℕ} → kind ≡ w (at + width * i) → a ≡ w (at + width * i + 1)
-      → u ≡ noted from (records_at w at i) to → k ≡ sends (records_at w at i) → v ≡ cond (eqb kind 3) (a % 32) 16
-      → set u (from + k + 1) v ≡ noted from (records_at w at (i + 1)) to
-  note_next from to i x y h s e = rw (h, s, e, x, y, add-one i, note_event (at + width * i))
-
--- what is noted is a byte
-pub note_small : (b : Bool) (a : ℕ) {v : ℕ} → v ≡ cond b (a % 32) 16 → v < 256
-note_small true a e = omega arith
-note_small false a e = omega arith

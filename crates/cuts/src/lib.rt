@@ -1,16 +1,14 @@
 // Scans of one process's records for a failure line.
 #![tactic(auto)]
 
-ghost use Rattle.std.specs.Prelude.{◌≡◌, ◌+◌, ◌*◌, ◌≤◌, ◌<◌, eqb, [], ◌∷◌, length};
-ghost use Rattle.xdr.specs.Words.{word};
+ghost use Rattle.std.specs.Prelude.{◌≡◌, ◌+◌, ◌≤◌, ◌<◌, eqb, [], ◌∷◌, length};
 ghost use Rattle.rules.specs.Records.{sends as sends_of};
-ghost use Rattle.rules.specs.Table.{width, records_at};
 ghost use Rattle.rules.specs.Lines.{upto, is_checkpoint};
 ghost use Rattle.rules.specs.FailureLine.{last_saved};
 ghost use Rattle.events.specs.Events.{meant, held};
 ghost use Rattle.cuts.specs.Parts.{counts};
 ghost use Rattle.cuts.specs.Tests.{late, note_index, unsent};
-ghost use Rattle.cuts.specs.Notes.{noted, Inside, struck};
+ghost use Rattle.cuts.specs.Notes.{noted, place_of, Inside, struck};
 
 use events::{Event, Records, Test};
 
@@ -64,8 +62,7 @@ pub fn back_to(records: &Records, k: usize, r: usize) -> Part
 // The test for a receipt whose send is not in its sender's part of the cut, by its number.
 #[derive(Clone, Copy, Drop)]
 pub struct Late<'a> {
-    pub cut: &'a [Part],
-    ghost sixteen: { length cut.now ≡ 16 },
+    pub cut: &'a [Part; 16],
 }
 
 impl<'a> Test for Late<'a> {
@@ -111,44 +108,55 @@ impl<'a> Test for Unsent<'a> {
     }
 }
 
-// A position or a count of sends.
-pub fn wide(x: u16) -> usize
-    ensures { result ≡ x }
-{
-    x as usize
-}
-
 // Notes from an index on where the sends go; how many there are.
-pub fn note(t: &[u8], at: usize, c: usize, from: usize, to: &mut [u8]) -> usize
-    requires { (c ≤ 1024) × (4 * (at + width * c) ≤ length t.now) × (from + c < length to.old) }
-    ensures { (to.new ≡ noted from (records_at (word t.now) at c) to.old) × (result ≡ sends_of (records_at (word t.now) at c)) }
+pub fn note(records: &Records, from: usize, to: &mut [u8]) -> usize
+    requires { from + records.now.count < length to.old }
+    ensures { (to.new ≡ noted from (held records.now) to.old) × (result ≡ sends_of (held records.now)) }
 {
-    let mut k: usize = 0;
-    let mut i: usize = 0;
-    while i < c {
-        let w = at + shape::WIDTH * i;
-        let kind = xdr::get_usize(t, w);
-        to[from + k + 1] = shape::pick(kind == 3, xdr::get_usize(t, w + shape::A) % 32, 16) as u8;
-        k = shape::pick(kind == 3, k + 1, k);
-        i += 1;
+    let mut k = 0;
+    for i in 0..records.count {
+        let next = from + k + 1;
+        match records.get(i) {
+            Event::Sent { to: q, .. } => {
+                to[next] = (q % 32) as u8;
+                k += 1;
+            }
+            _ => to[next] = 16,
+        }
     }
     k
 }
 
-// Strikes from the notes what process p has received: where p is noted for one of its receipts, 16 is noted instead.
-pub fn strike(t: &[u8], at: usize, c: usize, starts: &[u16], counts: &[u16], p: u8, to: &mut [u8])
-    requires { (c ≤ 1024) × (4 * (at + width * c) ≤ length t.now) × (length starts.now ≡ 16) × (length counts.now ≡ 16) × Inside starts.now counts.now (length to.old) }
-    ensures { to.new ≡ struck starts.now counts.now p (records_at (word t.now) at c) to.old }
+// Where the sends of a process are noted: `count` of them, from index `start` on.
+#[derive(Clone, Copy, Drop)]
+pub struct Span {
+    pub start: u16,
+    pub count: u16,
+}
+
+// Where send k of process q is noted, 0 if it is not.
+fn place(spans: &[Span; 16], q: u32, k: u32) -> usize
+    ensures { result ≡ place_of spans.now q k }
 {
-    let mut i: usize = 0;
-    while i < c {
-        let w = at + shape::WIDTH * i;
-        let q = xdr::get_usize(t, w + shape::A) % 16;
-        let k = xdr::get_usize(t, w + shape::B);
-        let x = shape::pick(k <= wide(counts[q]), wide(starts[q]) + k, 0);
-        let d = to[x];
-        let got = (xdr::get_usize(t, w) == 4) & (d == p);
-        to[x] = shape::pick(got, 16, d as usize) as u8;
-        i += 1;
+    let span = spans[(q % 16) as usize];
+    if k <= span.count as u32 {
+        span.start as usize + k as usize
+    } else {
+        0
+    }
+}
+
+// Strikes from the notes what process p has received: where p is noted for one of its receipts, 16 is noted instead.
+pub fn strike(records: &Records, spans: &[Span; 16], p: u8, to: &mut [u8])
+    requires { Inside spans.now (length to.old) }
+    ensures { to.new ≡ struck spans.now p (held records.now) to.old }
+{
+    for i in 0..records.count {
+        if let Event::Received { from, k, .. } = records.get(i) {
+            let x = place(spans, from, k);
+            if to[x] == p {
+                to[x] = 16;
+            }
+        }
     }
 }
