@@ -15,7 +15,7 @@ pub overflow_sub-sends : goal.overflow_sub-sends
 overflow_sub-sends c = let r = c.args.records.now in
     let s = c.loop-i in
     let m = back_more (word r.bytes.now) r.at r.count c.args.r s.i s.invariant.2 c.saved.ensures c.loop-i-test.true in
-    (sends_back (word r.bytes.now) r.at m refl s.invariant.1 (c.sent-sends.ensures ∙ ap (λ e. sends (e ∷ [])) c.get.ensures)).0
+    (sends_back (word r.bytes.now) r.at m refl s.invariant.1 (c.sent-sends.ensures ∙ ap (λ e. sends (e ∷ [])) c.get.ensures.event)).0
 
 pub loop-i-smaller : goal.loop-i-smaller
 loop-i-smaller c = let r = c.args.records.now in
@@ -28,7 +28,7 @@ loop-i-preserved c = let r = c.args.records.now in
     let s = c.loop-i in
     let m = back_more w r.at r.count c.args.r s.i s.invariant.2 c.saved.ensures c.loop-i-test.true in (
       back_next w r.at r.count c.args.r s.i s.invariant.2 c.saved.ensures c.loop-i-test.true s.invariant.0 refl,
-      (sends_back w r.at m refl s.invariant.1 (c.sent-sends.ensures ∙ ap (λ e. sends (e ∷ [])) c.get.ensures)).1,
+      (sends_back w r.at m refl s.invariant.1 (c.sent-sends.ensures ∙ ap (λ e. sends (e ∷ [])) c.get.ensures.event)).1,
       omega arith,
     )
 

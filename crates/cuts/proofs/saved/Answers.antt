@@ -13,5 +13,5 @@ returns-then-i-eq0 c = let r = c.args.records.now in
 
 pub returns-else-i-eq0 : goal.returns-else-i-eq0
 returns-else-i-eq0 c = let r = c.args.records.now in
-    saved_next (word r.bytes.now) r.at c.if-i-eq0.false (c.is_checkpoint.ensures ∙ ap is_checkpoint c.get.ensures)
+    saved_next (word r.bytes.now) r.at c.if-i-eq0.false (c.is_checkpoint.ensures ∙ ap is_checkpoint c.get.ensures.event)
     ∙ ap (λ h. eqb (last_saved h) c.args.i) (sym (records_upto (word r.bytes.now) r.at c.args.i r.count c.requires))
