@@ -1,7 +1,6 @@
 -- The positions of a failure line, the mask of the processes that go back, and the outcome from its parts.
 use mathlib.Core.Path.{◌≡◌, refl, sym, ap, ◌∙◌}
-use mathlib.Core.Logic.{◌≢◌}
-use mathlib.Core.Bool.{Bool, true, false, cond}
+use mathlib.Core.Bool.{Bool, true, false}
 use mathlib.Core.List.{List, [], ◌∷◌, ◌++◌}
 use Prim.Native.Nat.{ℕ, zero, suc, ◌+◌, ◌*◌, ◌%◌, ◌^◌, ◌<◌}
 use native.Mathlib.Nat.{pow-le-pow_right, mod-eq_of_lt}
@@ -17,9 +16,14 @@ use Rattle.rules.specs.Table.{decoded}
 use Rattle.rules.specs.Lines.{goes_back_at, mask_below, back_mask}
 use Rattle.rules.specs.FailureLine.{failure_line}
 use Rattle.rules.specs.Calls.{outcome, first, table_rows, failure_rows, failure_answer, failed_on}
-use Rattle.records.proofs.Rows.{judged_stop, judged_done}
+use Rattle.records.proofs.Rows.{judged_done}
 use Rattle.records.proofs.FailureLines.{failure_line_lem}
 use Rattle.records.proofs.Masks.{mask_lt}
+use Rattle.std.specs.Prelude.{Result}
+use Rattle.std.specs.Result.{IsErrAnd}
+use Rattle.refusals.specs.Refusals.{number_of, returned}
+use Rattle.refusals.specs.declared.Refusal.{Refusal}
+use Rattle.layout.proofs.Refused.{refused_outcome}
 use Rattle.layout.specs.declared.Table.{Table}
 use Rattle.layout.specs.Tables.{state_of}
 use Rattle.layout.proofs.Sections.{processes}
@@ -43,7 +47,9 @@ line_positions t mask {P} {Q} {R} {S} O a none C d late-none p lt =
 
 module _ (f : ℕ → Bool) (p : ℕ) (lt : p < 16) where
   bit_is : 1 * 2 ^ p % 4294967296 ≡ 2 ^ p
-  bit_is = let m = pow-le-pow_right {n = 2} (omega arith) {i = p} {j = 16} (omega arith) in rw (mod-eq_of_lt (omega arith)) (omega arith)
+  bit_is =
+      let m = pow-le-pow_right {n = 2} (omega arith) {i = p} {j = 16} (omega arith) in
+      mod-eq_of_lt {n = 1 * 2 ^ p} {m = 4294967296} (omega arith) ∙ (let e : 1 * 2 ^ p ≡ 2 ^ p = omega arith in e)
 
   module _ {back : ℕ} (is : back ≡ mask_below f p) where
     pub mask_fits : back + 1 * 2 ^ p % 4294967296 < 4294967296
@@ -70,12 +76,15 @@ goes_same : (mask : ℕ) (s : State) (P Q : List ℕ) (n : ℕ) → ((p : ℕ) �
 goes_same mask s P Q zero e = refl
 goes_same mask s P Q (suc n) e = rw (goes_same mask s P Q n (λ p lt. e p (omega arith)), e n (omega arith))
 
-pub failed_refused : (t a : List ℕ) (mask : ℕ) {r : ℕ} → r ≡ first (table_rows t ++ failure_rows (word t 0) mask (length a)) → r ≢ 0
-    → outcome r t a ≡ failed_on t a mask
-unfolding failed_on
-failed_refused t a mask e ne = judged_stop t a t (failure_answer mask (decoded t)) e ne
+abbrev row_met : List ℕ → List ℕ → ℕ → ℕ
+row_met t a mask = first (table_rows t ++ failure_rows (word t 0) mask (length a))
 
-module _ (t : Table) (a : List ℕ) (mask : ℕ) (z : first (table_rows t.bytes.now ++ failure_rows (word t.bytes.now 0) mask (length a)) ≡ 0)
+pub failed_refused : {A : Type 0} (r : Result A Refusal) (e : Refusal) → IsErrAnd r (λ y. y ≡ e) → (t a : List ℕ) (mask : ℕ)
+    → number_of e ≡ row_met t a mask → outcome (returned r) t a ≡ failed_on t a mask
+unfolding failed_on
+failed_refused r e h t a mask g = refused_outcome r e h t a [] t (failure_answer mask (decoded t)) [] g
+
+module _ (t : Table) (a : List ℕ) (mask : ℕ) (z : 0 ≡ row_met t.bytes.now a mask)
     (P : List ℕ) (at : (p : ℕ) → p < t.n → get_or P p 0 ≡ get_or (failure_line mask (state_of t)) p 0) {m : ℕ} (is : m ≡ back_mask mask (state_of t) P) where
   abbrev n : ℕ
   n = t.n
@@ -119,6 +128,6 @@ module _ (t : Table) (a : List ℕ) (mask : ℕ) (z : first (table_rows t.bytes.
       ∙ ap (λ (v : ℕ). put_word (put_word (put_each a g n) n (g n)) (n + 1) v) y
       ∙ ap (λ (k : ℕ). put_word (put_word (put_each a g n) n (g n)) k (g (suc n))) two
       in
-      judged_done t.bytes.now a t.bytes.now (failure_answer mask s) z refl
+      judged_done t.bytes.now a t.bytes.now (failure_answer mask s) (sym z) refl
       (all ∙ each_put a ws g (suc (suc n)) (let l = length-append cut (m ∷ ones m ∷ []) in let y = size in omega arith) (λ k lt. refl)
       ∙ ap (λ (x : ℕ). put_words a 0 (cut ++ (x ∷ ones x ∷ []))) back)

@@ -1,4 +1,4 @@
-use Rattle.std.proofs.Common.{arith, ap, sym, length, ◌≡◌, ◌+◌, ◌∙◌}
+use Rattle.std.proofs.Common.{arith, ap, sym, length, ◌≡◌, ◌∙◌}
 use Rattle.rules.specs.Lines.{goes_back_at, mask_below}
 use Rattle.layout.specs.Tables.{state_of}
 use Rattle.layout.proofs.Sections.{processes}

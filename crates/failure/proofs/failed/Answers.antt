@@ -2,7 +2,10 @@ use Rattle.failure.proofs.FailureLine.{failed_refused, failed_done}
 use Rattle.failure.proofs.failed.Goals as goal
 
 pub returns-in_err-table : goal.returns-in_err-table
-returns-in_err-table c = let z = c.from_residual.ensures in let y = c.in_err-table.ensures.row in let x = c.in_err-table.is in let w = c.in_err-table.was in ?
+returns-in_err-table c = let a = c.args in
+    failed_refused c.from_residual.result _ c.from_residual.ensures.1 a.table.now a.area.now a.mask c.in_err-table.ensures.row
 
 pub returns : goal.returns
-returns c = let z = c.asked.ensures in let y = c.in_ok-table.ensures in let x = c.in_ok-table.is in ?
+returns c = let a = c.args in
+    let b = c.in_ok-table in
+    rw (← b.ensures.table) (failed_done b.table a.area.now a.mask (rw (← b.ensures.table) at b.ensures.row) _ c.line-line.ensures c.back.ensures c.answer.ensures)
