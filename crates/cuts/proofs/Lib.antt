@@ -1,2 +1,3 @@
 pub mod Scanned
 pub mod Notes
+pub mod Parts

@@ -3,21 +3,19 @@ use mathlib.Core.Path.{◌≡◌, refl, sym, ap, ◌∙◌}
 use mathlib.Core.Logic.{◌≢◌, ◌⊎◌, inl, inr}
 use mathlib.Core.Bool.{Bool, true, false, cond, ◌&&◌, ◌||◌, and-false, and-true}
 use mathlib.Core.List.{List, [], ◌∷◌}
-use Prim.Native.Nat.{ℕ, suc, ◌+◌, ◌*◌, ◌≤◌, ◌<◌, ◌%◌}
+use Prim.Native.Nat.{ℕ, suc, ◌+◌, ◌≤◌, ◌<◌, ◌%◌}
 use native.Mathlib.Omega.{arith}
 use native.Mathlib.Decide.{ℕ_discrete}
 use lib.Dec.{leb, eqb}
 use lib.ListN.{length, get_or, set, length-set}
-use lib.Seq.{get_or-set_same, get_or-set_other, set-get_or}
+use lib.Seq.{get_or-set_same, get_or-set_other}
 use Rattle.rules.specs.Records.{Event, basic, forced, sent, received, History, sends, destination, has_receipt}
 use Rattle.tables.proofs.Laid.{Law, Legal, sends_length}
-use Rattle.cuts.specs.Notes.{note_of, noted, place_of, Inside, struck}
+use Rattle.cuts.specs.Notes.{note_of, noted, span_of, place_of, struck}
+use Rattle.cuts.specs.declared.Span.{Span}
 use borrow.Author.Tests.{eq-eqb, ne_eqb, le-leb, leb-true, eqb-true}
-use Rattle.rules.specs.Table.{width, records_at}
 use native.Mathlib.Nat.{mod-eq_of_lt}
 use Rattle.basics.proofs.Booleans.{Test, passes, fails, test}
-use native.Mathlib.Numerals.{add-one}
-use Rattle.tables.proofs.Scans.{event}
 
 -- ---- sends noted
 
@@ -98,77 +96,40 @@ module _ (from : ℕ) (to : List ℕ) where
 
 -- ---- receipts struck
 
--- what is written is a byte
-pub strike_small : (b : Bool) {x v : ℕ} → x < 256 → v ≡ cond b 16 x → v < 256
-strike_small true l e = omega arith
-strike_small false l e = omega arith
-
-pub place_read : (starts counts : List ℕ) (q k : ℕ) {c s x : ℕ} → c ≡ get_or counts (q % 16) 0 → s ≡ get_or starts (q % 16) 0
-    → x ≡ cond (leb k c) (s + k) 0 → x ≡ place_of starts counts q k
-place_read starts counts q k a d e = rw (e, a, d)
-
-pub place_inside : (starts counts : List ℕ) (len q k : ℕ) → Inside starts counts len → place_of starts counts q k < len
-place_inside starts counts len q k inside = go (test (leb k c))
-  where
-    c : ℕ
-    c = get_or counts (q % 16) 0
-
-    s : ℕ
-    s = get_or starts (q % 16) 0
-
-    go : Test (leb k c) → cond (leb k c) (s + k) 0 < len
-    go (passes x) = let l = leb-true k c x in let i = inside (q % 16) in rw x (omega arith)
-    go (fails x) = let i = inside (q % 16) in rw x (omega arith)
-
-module _ (starts counts : List ℕ) (p : ℕ) (to : List ℕ) where
-  pub struck_length : (h : History) → length (struck starts counts p h to) ≡ length to
+module _ (spans : List Span) (p : ℕ) (to : List ℕ) where
+  pub struck_length : (h : History) → length (struck spans p h to) ≡ length to
   struck_length [] = refl
   struck_length (basic m ∷ h) = struck_length h
   struck_length (forced m ∷ h) = struck_length h
   struck_length (sent q ∷ h) = struck_length h
   struck_length (received q k c ∷ h) =
-      let u = struck starts counts p h to in
-      let i = place_of starts counts q k in
+      let u = struck spans p h to in
+      let i = place_of spans q k in
       length-set u i (cond (eqb (get_or u i 0) p) 16 (get_or u i 0)) ∙ struck_length h
 
-  -- one record more
-  pub strike_next : (w : ℕ → ℕ) (at i : ℕ) {kind a b x v : ℕ} {u : List ℕ} → kind ≡ w (at + width * i) → a ≡ w (at + width * i + 1)
-      → b ≡ w (at + width * i + 2) → u ≡ struck starts counts p (records_at w at i) to → x ≡ place_of starts counts a b
-      → v ≡ cond (eqb kind 4 && eqb (get_or u x 0) p) 16 (get_or u x 0)
-      → set u x v ≡ struck starts counts p (records_at w at (i + 1)) to
-  strike_next w at i {kind} {a} {b} {x} {v} {u} k y z h n e =
-      rw (add-one i, event (λ (f : Event). struck starts counts p (f ∷ records_at w at i) to) w (at + width * i) refl, ← h, ← k, ← y, ← z, e, ← n)
-      (go (eqb kind 4) (eqb kind 3))
-    where
-      go : (f g : Bool)
-          → set u x (cond (f && eqb (get_or u x 0) p) 16 (get_or u x 0)) ≡ cond f (set u x (cond (eqb (get_or u x 0) p) 16 (get_or u x 0))) (cond g u u)
-      go true g = refl
-      go false true = set-get_or u x 0
-      go false false = set-get_or u x 0
-
   -- what is left of the note of send k of process q, which is the only one at its place
-  module _ (n E r q k : ℕ) (fewer : n ≤ 16) (few : p < 16) (lq : q < n) (in_List : get_or starts q 0 + k < length to) (pos : 0 < k)
-      (count : k ≤ get_or counts q 0)
-      (only : (q' k' : ℕ) → q' < n → 0 < k' → k' ≤ get_or counts q' 0 → get_or starts q' 0 + k' ≡ get_or starts q 0 + k → (q' ≡ q) × (k' ≡ k)) where
+  module _ (n E r q k : ℕ) (fewer : n ≤ 16) (few : p < 16) (lq : q < n) (in_List : (span_of spans q).start + k < length to) (pos : 0 < k)
+      (count : k ≤ (span_of spans q).count)
+      (only : (q' k' : ℕ) → q' < n → 0 < k' → k' ≤ (span_of spans q').count → (span_of spans q').start + k' ≡ (span_of spans q).start + k → (q' ≡ q) × (k' ≡ k)) where
     abbrev i : ℕ
-    i = get_or starts q 0 + k
+    i = (span_of spans q).start + k
 
-    place_only : (q' k' : ℕ) → q' < n → 0 < k' → place_of starts counts q' k' ≡ i → (q' ≡ q) × (k' ≡ k)
-    place_only q' k' l pos' e = go (test (leb k' (get_or counts (q' % 16) 0)))
+    place_only : (q' k' : ℕ) → q' < n → 0 < k' → place_of spans q' k' ≡ i → (q' ≡ q) × (k' ≡ k)
+    place_only q' k' l pos' e = go (test (leb k' ((span_of spans (q' % 16)).count)))
       where
         m : q' % 16 ≡ q'
         m = mod-eq_of_lt (omega arith)
 
-        go : Test (leb k' (get_or counts (q' % 16) 0)) → (q' ≡ q) × (k' ≡ k)
+        go : Test (leb k' ((span_of spans (q' % 16)).count)) → (q' ≡ q) × (k' ≡ k)
         go (passes x) =
-            let le : k' ≤ get_or counts q' 0 = leb-true k' (get_or counts q' 0) (rw m at x) in
-            only q' k' l pos' le (ap (λ (y : ℕ). get_or starts y 0 + k') (sym m) ∙ (rw x at e))
+            let le : k' ≤ (span_of spans q').count = leb-true k' ((span_of spans q').count) (rw m at x) in
+            only q' k' l pos' le (ap (λ (y : ℕ). (span_of spans y).start + k') (sym m) ∙ (rw x at e))
         go (fails x) = let z : 0 ≡ i = rw x at e in absurd (omega arith)
 
-    place_is : place_of starts counts q k ≡ i
-    place_is = let m : q % 16 ≡ q = mod-eq_of_lt (omega arith) in rw (m, le-leb k (get_or counts q 0) count)
+    place_is : place_of spans q k ≡ i
+    place_is = let m : q % 16 ≡ q = mod-eq_of_lt (omega arith) in rw (m, le-leb k ((span_of spans q).count) count)
 
-    pub struck_at : (h : History) → Legal n E r h → get_or (struck starts counts p h to) i 0 ≡ cond (eqb (get_or to i 0) p && has_receipt h q k) 16 (get_or to i 0)
+    pub struck_at : (h : History) → Legal n E r h → get_or (struck spans p h to) i 0 ≡ cond (eqb (get_or to i 0) p && has_receipt h q k) 16 (get_or to i 0)
     struck_at [] legal = rw (and-false (eqb (get_or to i 0) p))
     struck_at (basic m ∷ h) legal = struck_at h legal.1
     struck_at (forced m ∷ h) legal = struck_at h legal.1
@@ -176,10 +137,10 @@ module _ (starts counts : List ℕ) (p : ℕ) (to : List ℕ) where
     struck_at (received q' k' c ∷ h) legal = go (ℕ_discrete x i) (struck_at h legal.1)
       where
         u : List ℕ
-        u = struck starts counts p h to
+        u = struck spans p h to
 
         x : ℕ
-        x = place_of starts counts q' k'
+        x = place_of spans q' k'
 
         d : ℕ
         d = get_or to i 0

@@ -1,6 +1,7 @@
 -- Notes of where sends go. A process is noted from some index on: its send k stands k places behind.
 use Rattle.std.specs.Prelude.{cond, List, [], ◌∷◌, ℕ, ◌+◌, ◌%◌, ◌<◌, leb, eqb, get_or, set}
 use Rattle.rules.specs.Records.{Event, basic, forced, sent, received, History, sends}
+use Rattle.cuts.specs.declared.Span.{Span}
 
 -- what stands at the place of the next send once a record is read: its destination, 16 if it is no send
 abbrev pub note_of : Event → ℕ
@@ -16,22 +17,25 @@ noted from (e ∷ h) to = set (noted from h to) (from + sends h + 1) (note_of e)
 
 -- ---- receipts
 
--- Where send k of process q is noted: `starts` and `counts` have, for each of sixteen processes, from which index on it is noted and how
--- many sends. 0 where this send is not noted.
-abbrev pub place_of : List ℕ → List ℕ → ℕ → ℕ → ℕ
-place_of starts counts q k = cond (leb k (get_or counts (q % 16) 0)) (get_or starts (q % 16) 0 + k) 0
+-- where the sends of each of sixteen processes are noted; nothing is noted of a process that isn't one of them
+abbrev pub span_of : List Span → ℕ → Span
+span_of spans q = get_or spans q (record { start = 0; count = 0 })
+
+-- Where send k of process q is noted, 0 where it is not.
+abbrev pub place_of : List Span → ℕ → ℕ → ℕ
+place_of spans q k = cond (leb k (span_of spans (q % 16)).count) ((span_of spans (q % 16)).start + k) 0
 
 -- every place is in a list of this length
-abbrev pub Inside : List ℕ → List ℕ → ℕ → Type 0
-Inside starts counts len = (q : ℕ) → get_or starts q 0 + get_or counts q 0 < len
+abbrev pub Inside : List Span → ℕ → Type 0
+Inside spans len = (q : ℕ) → (span_of spans q).start + (span_of spans q).count < len
 
 -- the list once process p's receipts are struck from it: where p is noted for one of them, 16
-abbrev pub struck : List ℕ → List ℕ → ℕ → History → List ℕ → List ℕ
-struck starts counts p [] to = to
-struck starts counts p (basic m ∷ h) to = struck starts counts p h to
-struck starts counts p (forced m ∷ h) to = struck starts counts p h to
-struck starts counts p (sent q ∷ h) to = struck starts counts p h to
-struck starts counts p (received q k c ∷ h) to =
-    let u = struck starts counts p h to in
-    let i = place_of starts counts q k in
+abbrev pub struck : List Span → ℕ → History → List ℕ → List ℕ
+struck spans p [] to = to
+struck spans p (basic m ∷ h) to = struck spans p h to
+struck spans p (forced m ∷ h) to = struck spans p h to
+struck spans p (sent q ∷ h) to = struck spans p h to
+struck spans p (received q k c ∷ h) to =
+    let u = struck spans p h to in
+    let i = place_of spans q k in
     set u i (cond (eqb (get_or u i 0) p) 16 (get_or u i 0))

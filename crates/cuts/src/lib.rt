@@ -1,72 +1,79 @@
-// Scans of one process's records for a failure line. `at` is the word at which the records start, and c how many are in the cut.
+// Scans of one process's records for a failure line.
 #![tactic(auto)]
 
-ghost use Rattle.std.specs.Prelude.{◌≡◌, ◌+◌, ◌*◌, ◌≤◌, ◌<◌, eqb, length};
-ghost use Rattle.xdr.specs.Words.{word};
+ghost use Rattle.std.specs.Prelude.{◌≡◌, ◌+◌, ◌≤◌, ◌<◌, eqb, [], ◌∷◌, length};
 ghost use Rattle.rules.specs.Records.{sends as sends_of};
-ghost use Rattle.rules.specs.Table.{width, records_at};
-ghost use Rattle.rules.specs.FailureLine.{last_saved, before};
+ghost use Rattle.rules.specs.Lines.{upto, is_checkpoint};
+ghost use Rattle.rules.specs.FailureLine.{last_saved};
+ghost use Rattle.events.specs.Events.{meant, held};
+ghost use Rattle.cuts.specs.Parts.{counts};
 ghost use Rattle.cuts.specs.Tests.{late, note_index, unsent};
-ghost use Rattle.cuts.specs.Notes.{noted, Inside, struck};
+ghost use Rattle.cuts.specs.Notes.{noted, place_of, Inside, struck};
 
-// Where a process stands in a cut: how many of its records have happened, and how many of these are sends.
-#[derive(Drop)]
+use events::{Event, Records, Test};
+
+// Where a process stands in a cut: how many of its records have happened, and how many of these are sends. Both are at most 1,024, so that
+// sixteen bits hold them.
+#[derive(Clone, Copy, Drop)]
 pub struct Part {
-    pub position: usize,
-    pub sends: usize,
+    pub position: u16,
+    pub sends: u16,
+}
+
+// Whether a record is a checkpoint.
+fn is_checkpoint(event: Event) -> bool
+    ensures { result ≡ is_checkpoint (meant event) }
+{
+    matches!(event, Event::Basic { .. } | Event::Forced { .. })
+}
+
+// 1 for a send, else 0.
+fn sent(event: Event) -> usize
+    ensures { result ≡ sends_of (meant event ∷ []) }
+{
+    usize::from(matches!(event, Event::Sent { .. }))
 }
 
 // Whether position i is 0 or a checkpoint's.
-fn saved(t: &[u8], at: usize, i: usize) -> bool
-    requires { (i ≤ 1024) × (4 * (at + width * i) ≤ length t.now) }
-    ensures { result ≡ eqb (last_saved (records_at (word t.now) at i)) i }
+fn saved(records: &Records, i: usize) -> bool
+    requires { i ≤ records.now.count }
+    ensures { result ≡ eqb (last_saved (upto i (held records.now))) i }
 {
-    if i == 0 {
-        return true;
-    }
-    let kind = xdr::get_usize(t, at + shape::WIDTH * (i - 1));
-    !((kind == 4) | (kind == 3))
+    i == 0 || is_checkpoint(records.get(i - 1))
 }
 
-// From position c, before which there are k sends, back to the latest saved position that is at most r.
-pub fn back_to(t: &[u8], at: usize, c: usize, k: usize, r: usize) -> Part
-    requires { (r ≤ c) × (c ≤ 1024) × (4 * (at + width * c) ≤ length t.now) × (k ≡ sends_of (records_at (word t.now) at c)) }
-    ensures { (result.position ≡ last_saved (records_at (word t.now) at r)) × (result.sends ≡ sends_of (records_at (word t.now) at result.position)) }
+// From the end of some records, of which k are sends, back to the latest saved position that is at most r.
+pub fn back_to(records: &Records, k: usize, r: usize) -> Part
+    requires { (r ≤ records.now.count) × (k ≡ sends_of (held records.now)) }
+    ensures { (result.position ≡ last_saved (upto r (held records.now))) × (result.sends ≡ sends_of (upto result.position (held records.now))) }
 {
-    let mut i = c;
+    let mut i = records.count;
     let mut sends = k;
-    while (r < i) | !saved(t, at, i) {
+    while (r < i) | !saved(records, i) {
         i -= 1;
-        sends -= shape::pick(xdr::get_usize(t, at + shape::WIDTH * i) == 3, 1, 0);
+        sends -= sent(records.get(i));
     }
     Part {
-        position: i,
-        sends: sends,
+        position: i as u16,
+        sends: sends as u16,
     }
 }
 
-// A position or a count of sends is at most 1,024, so that sixteen bits hold it.
-pub fn wide(x: u16) -> usize
-    ensures { result ≡ x }
-{
-    x as usize
+// The test for a receipt whose send is not in its sender's part of the cut, by its number.
+#[derive(Clone, Copy, Drop)]
+pub struct Late<'a> {
+    pub cut: &'a [Part; 16],
 }
 
-// How many records come before the first one that is late, c if none is.
-pub fn first_late(t: &[u8], at: usize, c: usize, sends: &[u16]) -> usize
-    requires { (c ≤ 1024) × (4 * (at + width * c) ≤ length t.now) × (length sends.now ≡ 16) }
-    ensures { result ≡ length (before (late sends.now) (records_at (word t.now) at c)) }
-{
-    let mut i: usize = 0;
-    while i < c {
-        let w = at + shape::WIDTH * i;
-        let q = xdr::get_usize(t, w + shape::A) % 16;
-        if (xdr::get_usize(t, w) == 4) & (wide(sends[q]) < xdr::get_usize(t, w + shape::B)) {
-            return i;
+impl<'a> Test for Late<'a> {
+    ghost passes = { λ test. late (counts test.cut.now) };
+
+    fn test(&self, event: Event) -> bool {
+        match event {
+            Event::Received { from, k, .. } => u32::from(self.cut[from as usize % 16].sends) < k,
+            _ => false,
         }
-        i += 1;
     }
-    c
 }
 
 // Where send k of process q stands in a list of len notes.
@@ -75,62 +82,81 @@ fn note_index(e: usize, len: usize, q: usize, k: usize) -> usize
     ensures { result ≡ note_index e len q k }
 {
     let x = q * e + k;
-    shape::pick(x < len, x, 0)
+    if x < len { x } else { 0 }
 }
 
-// How many records of process p come before the first one that is unsent, c if none is.
-pub fn first_unsent(t: &[u8], at: usize, c: usize, e: usize, p: u8, to: &[u8]) -> usize
-    requires { (c ≤ 1024) × (4 * (at + width * c) ≤ length t.now) × (e ≤ 1024) × (0 < length to.now) }
-    ensures { result ≡ length (before (unsent e p to.now) (records_at (word t.now) at c)) }
-{
-    let mut i: usize = 0;
-    while i < c {
-        let w = at + shape::WIDTH * i;
-        let x = note_index(
-            e,
-            to.len(),
-            xdr::get_usize(t, w + shape::A),
-            xdr::get_usize(t, w + shape::B),
-        );
-        if (xdr::get_usize(t, w) == 4) & (to[x] != p) {
-            return i;
+// The test for a receipt at process p where another process is noted for its send, or none; each process has e notes.
+#[derive(Clone, Copy, Drop)]
+pub struct Unsent<'a> {
+    pub e: usize,
+    pub p: u8,
+    pub to: &'a [u8],
+    ghost few: { e ≤ 1024 },
+    ghost some: { 0 < length to.now },
+}
+
+impl<'a> Test for Unsent<'a> {
+    ghost passes = { λ test. unsent test.e test.p test.to.now };
+
+    fn test(&self, event: Event) -> bool {
+        match event {
+            Event::Received { from, k, .. } => {
+                self.to[note_index(self.e, self.to.len(), from as usize, k as usize)] != self.p
+            },
+            _ => false,
         }
-        i += 1;
     }
-    c
 }
 
 // Notes from an index on where the sends go; how many there are.
-pub fn note(t: &[u8], at: usize, c: usize, from: usize, to: &mut [u8]) -> usize
-    requires { (c ≤ 1024) × (4 * (at + width * c) ≤ length t.now) × (from + c < length to.old) }
-    ensures { (to.new ≡ noted from (records_at (word t.now) at c) to.old) × (result ≡ sends_of (records_at (word t.now) at c)) }
+pub fn note(records: &Records, from: usize, to: &mut [u8]) -> usize
+    requires { from + records.now.count < length to.old }
+    ensures { (to.new ≡ noted from (held records.now) to.old) × (result ≡ sends_of (held records.now)) }
 {
-    let mut k: usize = 0;
-    let mut i: usize = 0;
-    while i < c {
-        let w = at + shape::WIDTH * i;
-        let kind = xdr::get_usize(t, w);
-        to[from + k + 1] = shape::pick(kind == 3, xdr::get_usize(t, w + shape::A) % 32, 16) as u8;
-        k = shape::pick(kind == 3, k + 1, k);
-        i += 1;
+    let mut k = 0;
+    for i in 0..records.count {
+        let next = from + k + 1;
+        match records.get(i) {
+            Event::Sent { to: q, .. } => {
+                to[next] = (q % 32) as u8;
+                k += 1;
+            }
+            _ => to[next] = 16,
+        }
     }
     k
 }
 
-// Strikes from the notes what process p has received: where p is noted for one of its receipts, 16 is noted instead.
-pub fn strike(t: &[u8], at: usize, c: usize, starts: &[u16], counts: &[u16], p: u8, to: &mut [u8])
-    requires { (c ≤ 1024) × (4 * (at + width * c) ≤ length t.now) × (length starts.now ≡ 16) × (length counts.now ≡ 16) × Inside starts.now counts.now (length to.old) }
-    ensures { to.new ≡ struck starts.now counts.now p (records_at (word t.now) at c) to.old }
+// Where the sends of a process are noted: `count` of them, from index `start` on.
+#[derive(Clone, Copy, Drop)]
+pub struct Span {
+    pub start: u16,
+    pub count: u16,
+}
+
+// Where send k of process q is noted, 0 if it is not.
+fn place(spans: &[Span; 16], q: u32, k: u32) -> usize
+    ensures { result ≡ place_of spans.now q k }
 {
-    let mut i: usize = 0;
-    while i < c {
-        let w = at + shape::WIDTH * i;
-        let q = xdr::get_usize(t, w + shape::A) % 16;
-        let k = xdr::get_usize(t, w + shape::B);
-        let x = shape::pick(k <= wide(counts[q]), wide(starts[q]) + k, 0);
-        let d = to[x];
-        let got = (xdr::get_usize(t, w) == 4) & (d == p);
-        to[x] = shape::pick(got, 16, d as usize) as u8;
-        i += 1;
+    let span = spans[(q % 16) as usize];
+    if k <= span.count as u32 {
+        span.start as usize + k as usize
+    } else {
+        0
+    }
+}
+
+// Strikes from the notes what process p has received: where p is noted for one of its receipts, 16 is noted instead.
+pub fn strike(records: &Records, spans: &[Span; 16], p: u8, to: &mut [u8])
+    requires { Inside spans.now (length to.old) }
+    ensures { to.new ≡ struck spans.now p (held records.now) to.old }
+{
+    for i in 0..records.count {
+        if let Event::Received { from, k, .. } = records.get(i) {
+            let x = place(spans, from, k);
+            if to[x] == p {
+                to[x] = 16;
+            }
+        }
     }
 }

@@ -1,104 +1,69 @@
--- The rows of a failure line, the mask of the processes that go back, and the outcome from its parts.
+-- The positions of a failure line, the mask of the processes that go back, and the outcome from its parts.
 use mathlib.Core.Path.{◌≡◌, refl, sym, ap, ◌∙◌}
-use mathlib.Core.Logic.{◌≢◌}
-use mathlib.Core.Bool.{cond, Bool}
+use mathlib.Core.Bool.{Bool, true, false}
 use mathlib.Core.List.{List, [], ◌∷◌, ◌++◌}
-use Prim.Native.Nat.{ℕ, zero, suc, ◌+◌, ◌*◌, ◌/◌, ◌^◌, ◌≤◌, ◌<◌}
-use native.Mathlib.Nat.{le_trans, pow-suc, pow-le-pow_right, div-eq_of_lt, div-lt_iff_lt-mul}
+use Prim.Native.Nat.{ℕ, zero, suc, ◌+◌, ◌*◌, ◌%◌, ◌^◌, ◌<◌}
+use native.Mathlib.Nat.{pow-le-pow_right, mod-eq_of_lt}
 use native.Mathlib.Numerals.{add-one}
 use native.Mathlib.Omega.{arith}
-use native.Mathlib.Decide.{dec_lt}
-use lib.Dec.{eqb}
 use lib.ListN.{length, get_or, length-append, get_or-append}
 use lib.Seq.{get_or-append-add}
 use lib.Count.{ones}
-use borrow.Author.Tests.{eqb-true, not-false, eq-eqb, ne_eqb, le-leb, lt-leb}
 use Rattle.xdr.specs.Words.{word, put_word, put_each, put_words}
-use Rattle.xdr.proofs.Words.{Bytes}
 use Rattle.xdr.proofs.Puts.{each_same, each_put}
-use Rattle.rules.specs.Records.{State, history}
+use Rattle.rules.specs.Records.{State}
 use Rattle.rules.specs.Table.{decoded}
-use Rattle.rules.specs.Lines.{failed, goes_back, goes_back_at, mask_below, back_mask}
+use Rattle.rules.specs.Lines.{goes_back_at, mask_below, back_mask}
 use Rattle.rules.specs.FailureLine.{failure_line}
 use Rattle.rules.specs.Calls.{outcome, first, table_rows, failure_rows, failure_answer, failed_on}
-use Rattle.records.proofs.Rows.{none_met, first_none, split_zero, judged_stop, judged_done, stopped, going}
+use Rattle.records.proofs.Rows.{judged_done}
 use Rattle.records.proofs.FailureLines.{failure_line_lem}
-use Rattle.records.proofs.Masks.{two_positive, mask_lt}
-use Rattle.tables.proofs.WellLaid.{decoded_count, decoded_short}
+use Rattle.records.proofs.Masks.{mask_lt}
+use Rattle.std.specs.Prelude.{Result}
+use Rattle.std.specs.Result.{IsErrAnd}
+use Rattle.refusals.specs.Refusals.{number_of, returned}
+use Rattle.refusals.specs.declared.Refusal.{Refusal}
+use Rattle.layout.proofs.Refused.{refused_outcome}
+use Rattle.layout.specs.declared.Table.{Table}
+use Rattle.layout.specs.Tables.{state_of}
+use Rattle.layout.proofs.Sections.{processes}
+use Rattle.tops.specs.Tops.{Counted, Over}
 use Rattle.lowering.specs.Lowering.{Lowered, NoneAlways, NoneLate}
-use Rattle.tops.specs.Tops.{Laid, Counted, Over}
 use Rattle.lowering.proofs.Cuts.{always_lowered, none_clean, over_line}
-use Rattle.tops.proofs.Starts.{laid, is_valid, processes}
-
--- ---- rows
-
-module _ (t : List ℕ) (len mask : ℕ) {r : ℕ} (e : r ≡ first (table_rows t)) where
-  pub failed_table : r ≢ 0 → r ≡ first (table_rows t ++ failure_rows (word t 0) mask len)
-  failed_table ne = stopped (table_rows t) (failure_rows (word t 0) mask len) tt e ne
-
-  module _ (z : r ≡ 0) {n : ℕ} (i : n ≡ word t 0) where
-    rest : first (table_rows t ++ failure_rows (word t 0) mask len) ≡ first (failure_rows n mask len)
-    rest = going (table_rows t) (failure_rows (word t 0) mask len) tt e z ∙ ap (λ (m : ℕ). first (failure_rows m mask len)) (sym i)
-
-    pub failed_area : len ≢ 4 * n + 8 → 4 ≡ first (table_rows t ++ failure_rows (word t 0) mask len)
-    failed_area ne = sym (rest ∙ rw (ne_eqb len (4 * n + 8) ne))
-
-    pub failed_mask : len ≡ 4 * n + 8 → mask / 2 ^ n ≢ 0 → 11 ≡ first (table_rows t ++ failure_rows (word t 0) mask len)
-    failed_mask l ne = sym (rest ∙ rw (eq-eqb len (4 * n + 8) l, le-leb (2 ^ n) mask (high (dec_lt mask (2 ^ n)))))
-      where
-        high : Dec (mask < 2 ^ n) → 2 ^ n ≤ mask
-        high (yes k) = absurd (ne (div-eq_of_lt k))
-        high (no k) = omega arith
-
-    pub failed_none : len ≡ 4 * n + 8 → mask / 2 ^ n ≡ 0 → 0 ≡ first (table_rows t ++ failure_rows (word t 0) mask len)
-    failed_none l d =
-        let k : mask / 2 ^ n < 1 = omega arith in
-        let m = (div-lt_iff_lt-mul {k = 2 ^ n} {x = mask} {y = 1} (two_positive n)).0 k in
-        sym (rest ∙ rw (eq-eqb len (4 * n + 8) l, lt-leb (2 ^ n) mask (omega arith)))
-
--- a failure line that meets no row
-pub record Asked (t a : List ℕ) (n E : ℕ) : Type 0 where
-  pub laid : Laid t n E
-  pub area : length a ≡ 4 * n + 8
-
-pub asked : (t a : List ℕ) (mask : ℕ) → Bytes t → {r n E : ℕ} → r ≡ first (table_rows t ++ failure_rows (word t 0) mask (length a))
-    → r ≡ 0 → n ≡ word t 0 → E ≡ word t 1 → Asked t a n E
-asked t a mask b e z i j =
-    let s = split_zero (table_rows t) (failure_rows (word t 0) mask (length a)) tt (sym e ∙ z) in
-    let m = none_met (failure_rows (word t 0) mask (length a)) tt s.1 in
-    let l = eqb-true (length a) (4 * word t 0 + 8) (not-false (eqb (length a) (4 * word t 0 + 8)) m.0) in
-    record { laid = laid t b (sym (first_none (table_rows t) s.0)) refl i j; area = omega arith }
 
 -- ---- positions
 
-pub line_positions : (t : List ℕ) → Bytes t → {n E : ℕ} → Laid t n E → (mask : ℕ) {P Q R S : List ℕ} → Over mask (decoded t) P
-    → Lowered (decoded t) P Q → NoneAlways (decoded t) Q n → Counted (decoded t) R S → Lowered (decoded t) Q R → NoneLate (decoded t) R S n
-    → ((p : ℕ) → p < n → (get_or R p 0 ≡ get_or (failure_line mask (decoded t)) p 0)) × ((p : ℕ) → p < n → get_or R p 0 ≤ 1024)
-line_positions t b {n} {E} L mask {P} {Q} {R} {S} O a none C d late-none =
-    let s = decoded t in
-    let m = processes t b L in
-    let few = L.3 in
-    let W = is_valid t b L in
-    let clean = none_clean s R S C (omega arith) (always_lowered s Q R d (rw m none)) (rw m late-none) in (
-      λ p lt. over_line mask s R (d.over mask (a.over mask O)) clean p (omega arith),
-      λ p lt. le_trans (C.within p (omega arith)) (le_trans (decoded_short (word t 0) (word t 1) t W.is p) W.range.records),
-    )
+pub line_positions : (t : Table) (mask : ℕ) {P Q R S : List ℕ} → Over mask (state_of t) P
+    → Lowered (state_of t) P Q → NoneAlways (state_of t) Q t.n → Counted (state_of t) R S → Lowered (state_of t) Q R → NoneLate (state_of t) R S t.n
+    → (p : ℕ) → p < t.n → get_or R p 0 ≡ get_or (failure_line mask (state_of t)) p 0
+line_positions t mask {P} {Q} {R} {S} O a none C d late-none p lt =
+    let s = state_of t in
+    let m = processes t in
+    let few = t.laid.3 in
+    let clean = none_clean s R S C (omega arith) (always_lowered s Q R d (rw m none)) (rw m late-none) in
+    over_line mask s R (d.over mask (a.over mask O)) clean p (omega arith)
 
 -- ---- the mask
 
--- what is found of the first p processes
-abbrev pub Found : ℕ → State → List ℕ → ℕ → ℕ → ℕ → Type 0
-Found mask s P p back bit = (back ≡ mask_below (goes_back_at mask s P) p) × (bit ≡ 2 ^ p) × (back < bit) × (bit ≤ 65536)
+module _ (f : ℕ → Bool) (p : ℕ) (lt : p < 16) where
+  bit_is : 1 * 2 ^ p % 4294967296 ≡ 2 ^ p
+  bit_is =
+      let m = pow-le-pow_right {n = 2} (omega arith) {i = p} {j = 16} (omega arith) in
+      mod-eq_of_lt {n = 1 * 2 ^ p} {m = 4294967296} (omega arith) ∙ (let e : 1 * 2 ^ p ≡ 2 ^ p = omega arith in e)
 
-pub found_next : (mask : ℕ) (s : State) (P : List ℕ) (p : ℕ) → p < 16 → {back bit x y : ℕ} {down g : Bool} → Found mask s P p back bit
-    → down ≡ failed mask p → y ≡ get_or P p 0 → g ≡ goes_back down (history s p) y → x ≡ cond g bit 0
-    → Found mask s P (p + 1) (back + x) (bit * 2)
-found_next mask s P p lt {back} {bit} {x} (a, d, f, g) i j k e =
-    let u : back + x ≡ mask_below (goes_back_at mask s P) (suc p) = rw (a, e, k, i, j, d) in
-    let v : bit * 2 ≡ 2 ^ suc p = rw (pow-suc 2 p, d) in
-    let w = mask_lt (goes_back_at mask s P) (suc p) in
-    let most = pow-le-pow_right {n = 2} (omega arith) {i = suc p} {j = 16} (omega arith) in
-    (rw (add-one p) u, rw (add-one p) v, omega arith, omega arith)
+  module _ {back : ℕ} (is : back ≡ mask_below f p) where
+    pub mask_fits : back + 1 * 2 ^ p % 4294967296 < 4294967296
+    mask_fits =
+        let m = pow-le-pow_right {n = 2} (omega arith) {i = p} {j = 16} (omega arith) in
+        let l = mask_lt f p in
+        let b = bit_is in
+        omega arith
+
+    pub mask_with : f p ≡ true → back + 1 * 2 ^ p % 4294967296 ≡ mask_below f (p + 1)
+    mask_with t = rw (add-one p, t, bit_is, is)
+
+    pub mask_without : f p ≡ false → back ≡ mask_below f (p + 1)
+    mask_without t = rw (add-one p, t) (is ∙ (let e : mask_below f p ≡ mask_below f p + 0 = omega arith in e))
 
 -- ---- the answer
 
@@ -111,22 +76,27 @@ goes_same : (mask : ℕ) (s : State) (P Q : List ℕ) (n : ℕ) → ((p : ℕ) �
 goes_same mask s P Q zero e = refl
 goes_same mask s P Q (suc n) e = rw (goes_same mask s P Q n (λ p lt. e p (omega arith)), e n (omega arith))
 
-pub failed_refused : (t a : List ℕ) (mask : ℕ) {r : ℕ} → r ≡ first (table_rows t ++ failure_rows (word t 0) mask (length a)) → r ≢ 0
-    → outcome r t a ≡ failed_on t a mask
-unfolding failed_on
-failed_refused t a mask e ne = judged_stop t a t (failure_answer mask (decoded t)) e ne
+abbrev row_met : List ℕ → List ℕ → ℕ → ℕ
+row_met t a mask = first (table_rows t ++ failure_rows (word t 0) mask (length a))
 
-module _ (t a : List ℕ) (bt : Bytes t) (mask : ℕ) {r n E : ℕ} (e : r ≡ first (table_rows t ++ failure_rows (word t 0) mask (length a))) (z : r ≡ 0)
-    (i : n ≡ word t 0) (j : E ≡ word t 1) (P : List ℕ) (at : (p : ℕ) → p < n → get_or P p 0 ≡ get_or (failure_line mask (decoded t)) p 0)
-    {m : ℕ} (is : m ≡ back_mask mask (decoded t) P) where
+pub failed_refused : {A : Type 0} (r : Result A Refusal) (e : Refusal) → IsErrAnd r (λ y. y ≡ e) → (t a : List ℕ) (mask : ℕ)
+    → number_of e ≡ row_met t a mask → outcome (returned r) t a ≡ failed_on t a mask
+unfolding failed_on
+failed_refused r e h t a mask g = refused_outcome r e h t a [] t (failure_answer mask (decoded t)) [] g
+
+module _ (t : Table) (a : List ℕ) (mask : ℕ) (z : 0 ≡ row_met t.bytes.now a mask)
+    (P : List ℕ) (at : (p : ℕ) → p < t.n → get_or P p 0 ≡ get_or (failure_line mask (state_of t)) p 0) {m : ℕ} (is : m ≡ back_mask mask (state_of t) P) where
+  abbrev n : ℕ
+  n = t.n
+
   abbrev s : State
-  s = decoded t
+  s = state_of t
 
   abbrev cut : List ℕ
   cut = failure_line mask s
 
   many : length s ≡ n
-  many = decoded_count t ∙ sym i
+  many = processes t
 
   size : length cut ≡ n
   size = (failure_line_lem mask s).permit.size ∙ many
@@ -145,7 +115,7 @@ module _ (t a : List ℕ) (bt : Bytes t) (mask : ℕ) {r n E : ℕ} (e : r ≡ f
   after k = ap (λ (x : ℕ). get_or ws (x + k) 0) (sym size) ∙ get_or-append-add cut (m ∷ ones m ∷ []) k 0
 
   pub failed_done : {b : List ℕ} → b ≡ put_word (put_word (put_each a (λ p. get_or P p 0) n) n m) (n + 1) (ones m)
-      → outcome 0 t b ≡ failed_on t a mask
+      → outcome 0 t.bytes.now b ≡ failed_on t.bytes.now a mask
   unfolding failed_on failure_answer put_each
   failed_done {b} w =
       let two : n + 1 ≡ suc n = add-one n in
@@ -158,6 +128,6 @@ module _ (t a : List ℕ) (bt : Bytes t) (mask : ℕ) {r n E : ℕ} (e : r ≡ f
       ∙ ap (λ (v : ℕ). put_word (put_word (put_each a g n) n (g n)) (n + 1) v) y
       ∙ ap (λ (k : ℕ). put_word (put_word (put_each a g n) n (g n)) k (g (suc n))) two
       in
-      judged_done t a t (failure_answer mask s) (sym e ∙ z) refl
+      judged_done t.bytes.now a t.bytes.now (failure_answer mask s) (sym z) refl
       (all ∙ each_put a ws g (suc (suc n)) (let l = length-append cut (m ∷ ones m ∷ []) in let y = size in omega arith) (λ k lt. refl)
       ∙ ap (λ (x : ℕ). put_words a 0 (cut ++ (x ∷ ones x ∷ []))) back)

@@ -1,3 +1,4 @@
 pub mod Cuts
+pub mod Lowered
 pub mod Steps
 pub mod Notes

@@ -1,5 +1,5 @@
 -- What is noted of sends, and that it finds the receipts that are orphans in every cut.
-use mathlib.Core.Path.{◌≡◌, refl, ap, ◌∙◌, subst}
+use mathlib.Core.Path.{◌≡◌, refl, ap, ◌∙◌}
 use mathlib.Core.Logic.{inl, inr}
 use mathlib.Core.Bool.{Bool, true, false, not, cond, ◌&&◌}
 use mathlib.Core.List.{List, [], ◌∷◌}
@@ -7,26 +7,30 @@ use Prim.Native.Nat.{ℕ, ◌+◌, ◌*◌, ◌≤◌, ◌<◌}
 use native.Mathlib.Nat.{mul-le-mul_right}
 use native.Mathlib.Omega.{arith}
 use native.Mathlib.Decide.{ℕ_discrete}
-use lib.Dec.{leb, eqb}
-use lib.ListN.{length, get_or}
+use lib.Dec.{ltb, leb, eqb}
+use lib.ListN.{length, get_or, set}
 use borrow.Author.Tests.{lt-ltb, leb-true, leb-false, ne_eqb}
-use Rattle.xdr.specs.Words.{word}
-use Rattle.xdr.proofs.Words.{Bytes}
 use Rattle.rules.specs.Records.{Event, basic, forced, sent, received, History, State, history, sends, destination, has_send}
-use Rattle.rules.specs.Table.{heading, start, records_at, decoded}
-use Rattle.rules.specs.FailureLine.{any, before}
+use Rattle.rules.specs.Lines.{upto}
+use Rattle.rules.specs.FailureLine.{any, before, lowered}
 use Rattle.basics.proofs.Booleans.{Test, passes, fails, test}
 use Rattle.records.proofs.Histories.{Each, each_older}
 use Rattle.records.proofs.Cuts.{upto_is_older}
 use Rattle.tables.proofs.Laid.{Law, Legal}
+use Rattle.events.specs.declared.Records.{Records}
+use Rattle.events.specs.Events.{held}
+use Rattle.layout.specs.declared.Table.{Table}
+use Rattle.layout.specs.Tables.{state_of}
+use Rattle.layout.proofs.Sections.{lawful, section}
+use Rattle.cuts.specs.declared.Part.{Part}
+use Rattle.cuts.specs.Parts.{positions, counts, part_at}
 use Rattle.cuts.specs.Tests.{note_index, unsent}
 use Rattle.cuts.specs.Notes.{noted}
 use Rattle.cuts.proofs.Notes.{noted_length, noted_other, noted_sent, noted_blank}
+use Rattle.tops.specs.Tops.{Counted}
 use Rattle.lowering.specs.Lowering.{always_orphan, goes, Noted, Blank}
-use Rattle.tops.specs.Tops.{Laid, Counted}
 use Rattle.lowering.proofs.Cuts.{always_fair}
-use Rattle.lowering.proofs.Steps.{Written, step}
-use Rattle.tops.proofs.Starts.{lawful, section, view}
+use Rattle.lowering.proofs.Steps.{Step, lowered_step}
 
 -- each place of q has where that send goes
 noted_at : (E q : ℕ) (to : List ℕ) (n p : ℕ) → n ≤ 16 → q * E + E < length to → Blank to (q * E) → (h : History) → Legal n E p h → length h ≤ E
@@ -92,26 +96,50 @@ unsent_always s n E p to lp room N h legal = (before_same (unsent E p to) (alway
         go true d = refl
         go false d = ne_eqb 16 p (λ z. absurd (omega arith))
 
--- ---- a table's sections
+pub always_same : (s : State) (n E p : ℕ) (to : List ℕ) → p < 16 → n * E < length to → Noted s E to n → (h : History) → Legal n E p h → (x : ℕ)
+    → lowered (unsent E p to) h x ≡ lowered (always_orphan s p) h x
+always_same s n E p to lp room N h legal x =
+    let b = before_same (unsent E p to) (always_orphan s p) (Law n E p) same (upto x h) (each_older (Law n E p) (upto_is_older x h) legal) in
+    rw (b.0, b.1)
+  where
+    same : (e : Event) (g : History) → Law n E p e g → unsent E p to e ≡ always_orphan s p e
+    same (basic m) g a = refl
+    same (forced m) g a = refl
+    same (sent d) g a = refl
+    same (received q k c) g (lq, ne, pos, le, most) =
+        let m = mul-le-mul_right {m = q + 1} {n = n} E (omega arith) in
+        let i : note_index E (length to) q k ≡ q * E + k = rw (lt-ltb (q * E + k) (length to) (omega arith)) in
+        let z : eqb (get_or to (note_index E (length to) q k) 0) p ≡ has_send f p k =
+        rw (i, N q k lq pos le, lt-ltb 0 k pos) (go (leb k (sends f)) (destination f k))
+        in
+        ap not z
+      where
+        f : History
+        f = history s q
 
-module _ (t : List ℕ) (b : Bytes t) {n E : ℕ} (L : Laid t n E) (p : ℕ) (lt : p < n) {at : ℕ} (i : at ≡ start E p) where
-  pub note_turn : (to : List ℕ) → p * E + E < length to → Noted (decoded t) E to p → Blank to (p * E) → {c : ℕ} → c ≡ word t at
-      → {u : List ℕ} → u ≡ noted (p * E) (records_at (word t) (at + heading) c) to
-      → (length u ≡ length to) × Noted (decoded t) E u (p + 1) × Blank u ((p + 1) * E)
-  note_turn to room N B z e =
-      let H = section t b L p lt i in
+        go : (b : Bool) (d : ℕ) → eqb (cond b d 16) p ≡ (b && eqb d p)
+        go true d = refl
+        go false d = ne_eqb 16 p (λ z. absurd (omega arith))
+
+-- ---- a table
+
+module _ (t : Table) (p : ℕ) (lt : p < t.n) (r : Records) (is : held r ≡ history (state_of t) p) where
+  pub note_turn : (to : List ℕ) → p * t.e + t.e < length to → Noted (state_of t) t.e to p → Blank to (p * t.e)
+      → {u : List ℕ} → u ≡ noted (p * t.e) (held r) to
+      → (length u ≡ length to) × Noted (state_of t) t.e u (p + 1) × Blank u ((p + 1) * t.e)
+  note_turn to room N B e =
+      let H = section t p lt refl in
       let d = H.count in
       let f = H.short in
-      noted_next (decoded t) n E p to L.3 room N B (lawful t b L p) (omega arith)
-      (e ∙ ap (λ (h : History). noted (p * E) h to) (ap (records_at (word t) (at + heading)) z ∙ H.events))
+      noted_next (state_of t) t.n t.e p to t.laid.3 room N B (lawful t p) (omega arith) (e ∙ ap (λ (h : History). noted (p * t.e) h to) is)
 
   -- what the scan finds is the first receipt that is an orphan in every cut
-  pub always_step : (P S : List ℕ) → Counted (decoded t) P S → (to : List ℕ) → n * E < length to → Noted (decoded t) E to n
-      → {c : ℕ} → c ≡ get_or P p 0 → {r : ℕ} → r ≡ length (before (unsent E p to) (records_at (word t) (at + heading) c))
-      → Written t P S n p at (always_orphan (decoded t) p) c r
-  always_step P S C to room N {c} is e =
-      let f = L.3 in
-      let here = (view t b L P S C p lt i is).here in
-      let legal = each_older (Law n E p) (upto_is_older (get_or P p 0) (history (decoded t) p)) (lawful t b L p) in
-      let same = unsent_always (decoded t) n E p to (omega arith) room N (records_at (word t) (at + heading) c) (subst (Legal n E p) here legal) in
-      step t b L P S C p lt i (always_orphan (decoded t) p) (always_fair (decoded t) P p) is (e ∙ ap length same)
+  pub always_step : (cut : List Part) → Counted (state_of t) (positions cut) (counts cut) → (to : List ℕ) → t.n * t.e < length to
+      → Noted (state_of t) t.e to t.n → (x : Part)
+      → (x.position ≡ lowered (unsent t.e p to) (held r) (part_at cut p).position) × (x.sends ≡ sends (upto x.position (held r)))
+      → Step (state_of t) (positions cut) (counts cut) (positions (set cut p x)) (counts (set cut p x)) t.n p (always_orphan (state_of t) p)
+      (ltb x.position (part_at cut p).position)
+  always_step cut C to room N x (a, b) =
+      let m = t.laid.3 in
+      let same = always_same (state_of t) t.n t.e p to (omega arith) room N (held r) (rw is (lawful t p)) (part_at cut p).position in
+      lowered_step t cut C p lt r is (always_orphan (state_of t) p) (always_fair (state_of t) (positions cut) p) x (a ∙ same, b)

@@ -1,31 +1,33 @@
--- One turn of the loops that lower a cut: what the scan of a process's records finds, and the cut after it is taken back.
-use mathlib.Core.Path.{◌≡◌, refl, sym, ap, ◌∙◌, subst}
+-- One turn of the loops that lower a cut: the cut after a process is taken back.
+use mathlib.Core.Path.{◌≡◌, sym, ap, ◌∙◌, subst}
 use mathlib.Core.Logic.{◌≢◌, ◌⊎◌, inl, inr, ⊎_elim}
 use mathlib.Core.Bool.{Bool, true, false, cond}
 use mathlib.Core.List.{List}
 use Prim.Native.Nat.{ℕ, ◌+◌, ◌-◌, ◌*◌, ◌≤◌, ◌<◌}
-use native.Mathlib.Nat.{le_trans}
 use native.Mathlib.Omega.{arith}
 use native.Mathlib.Decide.{dec_lt, ℕ_discrete}
 use lib.Dec.{ltb}
-use lib.ListN.{length, get_or, set, replicate, length-replicate, get_or-replicate}
-use lib.Seq.{get_or-set_same, set-get_or}
-use borrow.Author.Tests.{ltb-true, ltb-false, lt-ltb, le-ltb}
-use Rattle.xdr.specs.Words.{word}
-use Rattle.xdr.proofs.Words.{Bytes}
+use lib.ListN.{length, get_or, set}
+use lib.Seq.{set-get_or}
+use borrow.Author.Tests.{ltb-true, ltb-false}
 use Rattle.rules.specs.Records.{Event, History, State, history, sends}
-use Rattle.rules.specs.Table.{heading, start, records_at, decoded}
 use Rattle.rules.specs.Lines.{upto, part}
-use Rattle.rules.specs.FailureLine.{any, before, last_saved, lowered}
-use Rattle.basics.proofs.Booleans.{Test, passes, fails, test, clash}
-use Rattle.records.proofs.Cuts.{before_older, before_less, before_all, lowered_le, lowered_none, lowered_less}
-use Rattle.tables.proofs.WellLaid.{records_length}
+use Rattle.rules.specs.FailureLine.{any, lowered}
+use Rattle.basics.proofs.Booleans.{Test, passes, fails, test}
+use Rattle.records.proofs.Cuts.{lowered_le, lowered_none}
+use Rattle.events.specs.declared.Records.{Records}
+use Rattle.events.specs.Events.{held}
+use Rattle.layout.specs.declared.Table.{Table}
+use Rattle.layout.specs.Tables.{state_of}
+use Rattle.layout.proofs.Sections.{processes}
+use Rattle.cuts.specs.declared.Part.{Part}
+use Rattle.cuts.specs.Parts.{positions, counts, part_at}
 use Rattle.cuts.specs.Tests.{late}
-use Rattle.tops.proofs.Starts.{processes, View, small_counts, view}
-use Rattle.lowering.specs.Lowering.{Lowered, always_orphan, Pruned, Settled, Blank}
-use Rattle.tops.specs.Tops.{Laid, Counted}
+use Rattle.cuts.proofs.Parts.{position_at, sends_at, positions_set, counts_set}
+use Rattle.tops.specs.Tops.{Counted}
+use Rattle.lowering.specs.Lowering.{Lowered, always_orphan, Pruned, Settled}
 use Rattle.lowering.proofs.Cuts.{total, lowered_refl, lowered_trans, part_same, part_other, set_counted, set_total, Fair, lower_fair, late_fair}
-use Rattle.tables.proofs.Scans.{older_first, records_upto}
+use Rattle.lowering.proofs.Lowered.{held_length}
 
 -- ---- one process taken back
 
@@ -38,100 +40,70 @@ pub record Step (s : State) (P S P' S' : List ℕ) (n p : ℕ) (o : Event → Bo
   pub falls : total P' n + cond moves 1 0 ≤ total P n
   pub stays : moves ≡ false → (P ≡ P') × (S ≡ S')
 
--- what is written for p, from position c to before record r, makes a step, and is small, so that sixteen bits hold it
-abbrev pub Written : (t P S : List ℕ) (n p at : ℕ) (o : Event → Bool) (c r : ℕ) → Type 0
-Written t P S n p at o c r =
-    (y k : ℕ) → y ≡ cond (ltb r c) (last_saved (records_at (word t) (at + heading) r)) c → k ≡ sends (records_at (word t) (at + heading) y)
-    → Step (decoded t) P S (set P p y) (set S p k) n p o (ltb r c) × (y ≤ 1024) × (k ≤ 1024)
-
-module _ (t : List ℕ) (b : Bytes t) {n E : ℕ} (L : Laid t n E) (P S : List ℕ) (C : Counted (decoded t) P S) (p : ℕ) (lt : p < n) {at : ℕ} (i : at ≡ start E p)
-    (o : Event → Bool) (fair : Fair (decoded t) P p o) where
-  abbrev held : State
-  held = decoded t
-
-  abbrev x : ℕ
-  x = get_or P p 0
+module _ (s : State) (P S : List ℕ) (C : Counted s P S) (few : length s ≤ 16) (p : ℕ) (lt : p < length s) (o : Event → Bool) (fair : Fair s P p o)
+    {y k : ℕ} (a : y ≡ lowered o (history s p) (get_or P p 0)) (b : k ≡ sends (upto y (history s p))) where
+  abbrev from : ℕ
+  from = get_or P p 0
 
   abbrev h : History
-  h = history held p
+  h = history s p
 
-  abbrev records : ℕ → History
-  records = records_at (word t) (at + heading)
+  wide : (p < length P) × (p < length S)
+  wide = let d = C.positions in let e = C.sixteen in (omega arith, omega arith)
 
-  seen : View t b L P S p at x
-  seen = view t b L P S C p lt i refl
-
-  wide : (p < length P) × (p < length S) × (p < length held)
-  wide = let a = C.positions in let d = C.sixteen in let c = L.3 in let e = processes t b L in (omega arith, omega arith, omega arith)
-
-  -- where the test holds for some record, the position is lowered
-  found : any o (records x) ≡ true → {r : ℕ} → r ≡ length (before o (records x))
-      → (ltb r x ≡ true) × (last_saved (records r) ≡ lowered o h x)
-  found y {r} e =
-      let a = before_less o (records x) y in
-      let l = records_length (word t) (at + heading) x in
-      let g : records r ≡ before o (records x) = ap records e ∙ sym (older_first (word t) (at + heading) x (before_older o (records x))) in
-      let z : lowered o h x ≡ last_saved (before o (records x)) = rw (seen.here, y) in
-      (lt-ltb r x (omega arith), ap last_saved g ∙ sym z)
-
-  missed : any o (records x) ≡ false → {r : ℕ} → r ≡ length (before o (records x)) → ltb r x ≡ false
-  missed y {r} e =
-      let l = records_length (word t) (at + heading) x in
-      let g = ap length (before_all o (records x) y) in
-      le-ltb r x (omega arith)
-
-  -- the step that takes p back to v
-  back : (v : ℕ) → v ≡ lowered o h x → any o (records x) ≡ true → Step held P S (set P p v) (set S p (sends (records v))) n p o true
-  back v e y =
-      let le : v ≤ x = subst (λ (z : ℕ). z ≤ x) (sym e) (lowered_le o h x) in
-      let d : records v ≡ upto v h =
-      sym (ap (upto v) seen.all ∙ records_upto (word t) (at + heading) v (word t at) (le_trans le seen.least))
-      in
-      record {
-        counted = set_counted held P p wide.0 v S C le (ap sends d) wide.1 wide.2;
-        lowers = subst (λ (z : ℕ). Lowered held P (set P p z)) (sym e) (lower_fair held P p wide.0 o fair);
-        none = rw (part_same held P p wide.0 v, e) (lowered_none o h x);
-        others = part_other held P p wide.0 v;
-        falls = let f = set_total held P p wide.0 v n lt in let g = less in omega arith;
-        stays = λ z. clash true refl z;
-      }
-    where
-      less : v < x
-      less = subst (λ (z : ℕ). z < x) (sym e) (lowered_less o h x (ap (any o) seen.here ∙ y))
-
-  rest : any o (records x) ≡ false → Step held P S P S n p o false
-  rest y =
-      record {
-        counted = C;
-        lowers = lowered_refl held P;
-        none = ap (any o) seen.here ∙ y;
-        others = λ q ne. refl;
-        falls = omega arith;
-        stays = λ z. (refl, refl);
-      }
+  le : y ≤ from
+  le = subst (λ (z : ℕ). z ≤ from) (sym a) (lowered_le o h from)
 
   -- a process that stays is written as it was, which changes nothing
-  pub step : {c : ℕ} → c ≡ x → {r : ℕ} → r ≡ length (before o (records c)) → Written t P S n p at o c r
-  step {c} is {r} e y k a d =
-      let u = go (test (any o (records x))) in
-      let m = small u.counted in
-      rw is (u, m.0, m.1)
-    where
-      small : Counted held (set P p y) (set S p k) → (y ≤ 1024) × (k ≤ 1024)
-      small D =
-          rw (get_or-set_same P p y 0 wide.0, get_or-set_same S p k 0 wide.1)
-          at (small_counts t b L p lt (D.within p wide.2) (D.counted p wide.2))
+  same : ltb y from ≡ false → y ≡ from
+  same z = let l = ltb-false y from z in let m = le in omega arith
 
-      go : Test (any o (records x)) → Step held P S (set P p y) (set S p k) n p o (ltb r x)
-      go (passes z) =
-          let f = found z (rw is at e) in
-          let v : y ≡ last_saved (records r) = rw (is, f.0) at a in
-          rw (d, f.0) (back y (v ∙ f.1) z)
-      go (fails z) =
-          let m = missed z (rw is at e) in
-          let v : y ≡ x = rw (is, m) at a in
-          let u : k ≡ get_or S p 0 = d ∙ ap (λ (w : ℕ). sends (records w)) v ∙ sym seen.sent in
-          rw (u, v, m, set-get_or P p 0, set-get_or S p 0) (rest z)
+  step : Step s P S (set P p y) (set S p k) (length s) p o (ltb y from)
+  step =
+      record {
+        counted = set_counted s P p wide.0 y S C le b wide.1 lt;
+        lowers = subst (λ (z : ℕ). Lowered s P (set P p z)) (sym a) (lower_fair s P p wide.0 o fair);
+        none = rw (part_same s P p wide.0 y, a) (lowered_none o h from);
+        others = part_other s P p wide.0 y;
+        falls = falls (test (ltb y from)) (set_total s P p wide.0 y (length s) lt);
+        stays = λ z. (
+          sym (ap (set P p) (same z) ∙ set-get_or P p 0),
+          sym (ap (set S p) (b ∙ ap (λ (v : ℕ). sends (upto v h)) (same z) ∙ sym (C.counted p lt)) ∙ set-get_or S p 0),
+        );
+      }
+    where
+      falls : Test (ltb y from) → total (set P p y) (length s) + from ≡ total P (length s) + y
+          → total (set P p y) (length s) + cond (ltb y from) 1 0 ≤ total P (length s)
+      falls (passes z) e = let l = ltb-true y from z in rw z (omega arith)
+      falls (fails z) e = let l = same z in rw z (omega arith)
+
+-- ---- in a table
+
+module _ (t : Table) (cut : List Part) (C : Counted (state_of t) (positions cut) (counts cut)) (p : ℕ) (lt : p < t.n) where
+  few : length (state_of t) ≤ 16
+  few = let e = processes t in let m = t.laid.3 in omega arith
+
+  inside : p < length (state_of t)
+  inside = let e = processes t in omega arith
+
+  -- a part of its records
+  pub part_held : (r : Records) → held r ≡ history (state_of t) p
+      → ((part_at cut p).position ≤ r.count) × ((part_at cut p).sends ≡ sends (upto (part_at cut p).position (held r)))
+  part_held r is =
+      let h = history (state_of t) p in
+      let n : r.count ≡ length h = sym (held_length r) ∙ ap length is in
+      let a = position_at cut p in
+      let l = C.within p inside in
+      (omega arith, sym (sends_at cut p) ∙ C.counted p inside ∙ (rw (a, is)))
+
+  -- what p's part is lowered to makes a step
+  pub lowered_step : (r : Records) → held r ≡ history (state_of t) p → (o : Event → Bool) → Fair (state_of t) (positions cut) p o
+      → (x : Part) → (x.position ≡ lowered o (held r) (part_at cut p).position) × (x.sends ≡ sends (upto x.position (held r)))
+      → Step (state_of t) (positions cut) (counts cut) (positions (set cut p x)) (counts (set cut p x)) t.n p o (ltb x.position (part_at cut p).position)
+  lowered_step r is o fair x (a, b) =
+      let q = position_at cut p in
+      rw (positions_set cut p x, counts_set cut p x, ← processes t, ← q)
+      (step (state_of t) (positions cut) (counts cut) C few p inside o fair (rw (← is, q) a) (rw (← is) b))
 
 -- ---- late receipts
 
@@ -210,20 +182,17 @@ module _ {s : State} {P₀ P S : List ℕ} {n p stayed : ℕ} (Q : Quiet s P₀ 
         go true x y = omega arith
         go false x y = omega arith
 
-pub late_step : (t : List ℕ) (b : Bytes t) {n E : ℕ} (L : Laid t n E) {P₀ P S : List ℕ} {p stayed : ℕ} → Quiet (decoded t) P₀ P S n p stayed
-    → stayed < n → {at : ℕ} → at ≡ start E p → {c : ℕ} → c ≡ get_or P p 0
-    → {r : ℕ} → r ≡ length (before (late S) (records_at (word t) (at + heading) c)) → Written t P S n p at (late S) c r
-late_step t b L {P} {S} {p} Q lt i =
+pub late_step : (t : Table) {P₀ : List ℕ} (cut : List Part) {p stayed : ℕ} → Quiet (state_of t) P₀ (positions cut) (counts cut) t.n p stayed
+    → stayed < t.n → (r : Records) → held r ≡ history (state_of t) p
+    → (x : Part) → (x.position ≡ lowered (late (counts cut)) (held r) (part_at cut p).position) × (x.sends ≡ sends (upto x.position (held r)))
+    → Step (state_of t) (positions cut) (counts cut) (positions (set cut p x)) (counts (set cut p x)) t.n p (late (counts cut)) (ltb x.position (part_at cut p).position)
+late_step t cut {p} Q lt r is x e =
     let C = Q.counted in
-    let e = processes t b L in
-    let m = L.3 in
-    step t b L P S C p (Q.turn (omega arith)) i (late S) (late_fair (decoded t) P S C (omega arith) p)
+    let m = processes t in
+    let f = t.laid.3 in
+    lowered_step t cut C p (Q.turn (omega arith)) r is (late (counts cut)) (late_fair (state_of t) (positions cut) (counts cut) C (omega arith) p) x e
 
 -- ---- pruning
-
--- a list of 16 in every place
-pub blank : (m : ℕ) → Blank (replicate m 16) 0
-blank m i lt le = get_or-replicate m i 16 0 (subst (λ (x : ℕ). i < x) (length-replicate {A = ℕ} m 16) le)
 
 pub pruned_next : (s : State) (P₀ P S P' S' : List ℕ) (n p : ℕ) {moves : Bool} → Pruned s P₀ P S p
     → Step s P S P' S' n p (always_orphan s p) moves → Pruned s P₀ P' S' (p + 1)

@@ -6,114 +6,113 @@
 #![tactic(auto)]
 
 ghost use Rattle.std.specs.Prelude.{◌≡◌, cond, ◌+◌, ◌*◌, ◌≤◌, ◌<◌, ltb, length};
-ghost use Rattle.xdr.specs.Words.{word};
 ghost use Rattle.rules.specs.Records.{sends as sends_of};
-ghost use Rattle.rules.specs.Table.{width, records_at, decoded};
-ghost use Rattle.rules.specs.FailureLine.{last_saved};
-ghost use Rattle.tops.specs.Tops.{Laid, Counted};
+ghost use Rattle.rules.specs.Lines.{upto};
+ghost use Rattle.rules.specs.FailureLine.{lowered};
+ghost use Rattle.events.specs.Events.{held};
+ghost use Rattle.layout.specs.Tables.{state_of};
+ghost use Rattle.cuts.specs.Parts.{positions, counts};
+ghost use Rattle.tops.specs.Tops.{Counted};
 ghost use Rattle.lowering.specs.Lowering.{Pruned, Settled, Noted, Blank};
 
-use tops::Cut;
+use cuts::{Late, Part, Unsent};
+use events::{Records, Test};
+use layout::Table;
 
 // ---- one process
 
-// From position c, before which there are k sends, back to the latest saved position that is at most r, if c is above r.
-fn back(t: &[u8], at: usize, c: usize, k: usize, r: usize) -> cuts::Part
-    requires { (c ≤ 1024) × (4 * (at + width * c) ≤ length t.now) × (k ≡ sends_of (records_at (word t.now) at c)) }
-    ensures { (result.position ≡ cond (ltb r c) (last_saved (records_at (word t.now) at r)) c) × (result.sends ≡ sends_of (records_at (word t.now) at result.position)) }
+// A part of a process's records, taken back to the latest saved position before the first record in it that passes, if there is one.
+fn lower<T: Test>(records: &Records, part: Part, test: &T) -> Part
+    requires { (part.position ≤ records.now.count) × (part.sends ≡ sends_of (upto part.position (held records.now))) }
+    ensures { (result.position ≡ lowered (T.passes test.now) (held records.now) part.position) × (result.sends ≡ sends_of (upto result.position (held records.now))) }
 {
-    if c <= r {
-        return cuts::Part {
-            position: c,
-            sends: k,
-        };
+    let records = records.upto(usize::from(part.position));
+    let r = records.first(test);
+    if r == records.count {
+        return part;
     }
-    cuts::back_to(t, at, c, k, r)
+    cuts::back_to(&records, usize::from(part.sends), r)
 }
 
 // ---- receipts that are orphans in every cut
 
 // Notes where all sends go.
-fn note_all(t: &[u8], n: usize, e: usize, to: &mut [u8])
-    requires { Laid t.now n e × (n * e < length to.old) × Blank to.old 0 }
-    ensures { (length to.new ≡ length to.old) × Noted (decoded t.now) e to.new n }
+fn note_all(table: &Table, to: &mut [u8])
+    requires { (table.now.n * table.now.e < length to.old) × Blank to.old 0 }
+    ensures { (length to.new ≡ length to.old) × Noted (state_of table.now) table.now.e to.new table.now.n }
 {
-    let mut p: usize = 0;
-    while p < n {
-        let at = shape::start(e, p);
-        cuts::note(t, at + shape::HEADING, xdr::get_usize(t, at), p * e, to);
-        p += 1;
+    for p in 0..table.n {
+        cuts::note(&table.records(p), p * table.e, to);
     }
 }
 
 // Every process before its first receipt that is an orphan in every cut.
-fn prune(t: &[u8], n: usize, e: usize, cut: Cut, to: &[u8]) -> Cut
-    requires { Laid t.now n e × (n * e < length to.now) × Noted (decoded t.now) e to.now n × Counted (decoded t.now) cut.position cut.sends }
-    ensures { Pruned (decoded t.now) cut.position result.position result.sends n }
+fn prune(table: &Table, cut: [Part; 16], to: &[u8]) -> [Part; 16]
+    requires { (table.now.n * table.now.e < length to.now) × Noted (state_of table.now) table.now.e to.now table.now.n × Counted (state_of table.now) (positions cut) (counts cut) }
+    ensures { Pruned (state_of table.now) (positions cut) (positions result) (counts result) table.now.n }
 {
-    let mut position = cut.position;
-    let mut sends = cut.sends;
-    let mut p: usize = 0;
-    while p < n {
-        let at = shape::start(e, p) + shape::HEADING;
-        let c = cuts::wide(position[p]);
-        let r = cuts::first_unsent(t, at, c, e, p as u8, to);
-        let x = back(t, at, c, cuts::wide(sends[p]), r);
-        position[p] = x.position as u16;
-        sends[p] = x.sends as u16;
-        p += 1;
+    let mut lowered = cut;
+    for p in 0..table.n {
+        let unsent = Unsent {
+            e: table.e,
+            p: p as u8,
+            to,
+        };
+        lowered[p] = lower(&table.records(p), lowered[p], &unsent);
     }
-    Cut {
-        position: position,
-        sends: sends,
-    }
+    lowered
 }
 
-// Every process before its first such receipt, with the notes made first; `to` is room for them.
-fn pruned_with(t: &[u8], n: usize, e: usize, cut: Cut, to: &mut [u8]) -> Cut
-    requires { Laid t.now n e × (n * e < length to.old) × Blank to.old 0 × Counted (decoded t.now) cut.position cut.sends }
-    ensures { Pruned (decoded t.now) cut.position result.position result.sends n }
+// Every process before its first such receipt, by notes in a room of N bytes.
+fn pruned_within<const N: usize>(table: &Table, cut: [Part; 16]) -> [Part; 16]
+    requires { (table.now.n * table.now.e < N) × (N ≤ 16385) × Counted (state_of table.now) (positions cut) (counts cut) }
+    ensures { Pruned (state_of table.now) (positions cut) (positions result) (counts result) table.now.n }
 {
-    note_all(t, n, e, to);
-    prune(t, n, e, cut, &to[..])
+    let mut to = [16u8; N];
+    note_all(table, &mut to);
+    prune(table, cut, &to)
 }
 
 // Every process before its first such receipt. A small table does not pay for the room that the largest needs.
-pub fn pruned(t: &[u8], n: usize, e: usize, cut: Cut) -> Cut
-    requires { Laid t.now n e × Counted (decoded t.now) cut.position cut.sends }
-    ensures { Pruned (decoded t.now) cut.position result.position result.sends n }
+pub fn pruned(table: &Table, cut: [Part; 16]) -> [Part; 16]
+    requires { Counted (state_of table.now) (positions cut) (counts cut) }
+    ensures { Pruned (state_of table.now) (positions cut) (positions result) (counts result) table.now.n }
 {
-    if n * e < 256 {
-        let mut few = [16u8; 256];
-        return pruned_with(t, n, e, cut, &mut few);
+    if table.n * table.e < 256 {
+        return pruned_within::<256>(table, cut);
     }
-    let mut many = [16u8; 16385];
-    pruned_with(t, n, e, cut, &mut many)
+    pruned_within::<16385>(table, cut)
 }
 
 // ---- late receipts
 
-// Takes one process after the other before its first late receipt, round and round, until n in a row have stayed.
-pub fn settled(t: &[u8], n: usize, e: usize, cut: Cut) -> Cut
-    requires { Laid t.now n e × Counted (decoded t.now) cut.position cut.sends }
-    ensures { Settled (decoded t.now) cut.position result.position result.sends n }
+// The process that has its turn after p, round the n of them.
+fn after(p: usize, n: usize) -> usize
+    requires { p < n }
+    ensures { result ≡ cond (ltb (p + 1) n) (p + 1) 0 }
 {
-    let mut position = cut.position;
-    let mut sends = cut.sends;
-    let mut stayed: usize = 0;
-    let mut p: usize = 0;
-    while stayed < n {
-        let at = shape::start(e, p) + shape::HEADING;
-        let c = cuts::wide(position[p]);
-        let r = cuts::first_late(t, at, c, &sends);
-        let x = back(t, at, c, cuts::wide(sends[p]), r);
-        position[p] = x.position as u16;
-        sends[p] = x.sends as u16;
-        stayed = shape::pick(r < c, 0, stayed + 1);
-        p = shape::pick(p + 1 < n, p + 1, 0);
+    if p + 1 < n { p + 1 } else { 0 }
+}
+
+// Takes one process after the other before its first late receipt, round and round, until n in a row have stayed.
+pub fn settled(table: &Table, cut: [Part; 16]) -> [Part; 16]
+    requires { Counted (state_of table.now) (positions cut) (counts cut) }
+    ensures { Settled (state_of table.now) (positions cut) (positions result) (counts result) table.now.n }
+{
+    let mut lowered = cut;
+    let mut stayed = 0;
+    let mut p = 0;
+    // By while: the turns go round until n in a row have stayed, so that neither count runs over a range.
+    while stayed < table.n {
+        let late = Late { cut: &lowered };
+        let part = lower(&table.records(p), lowered[p], &late);
+        stayed = if part.position < lowered[p].position {
+            0
+        } else {
+            stayed + 1
+        };
+        lowered[p] = part;
+        p = after(p, table.n);
     }
-    Cut {
-        position: position,
-        sends: sends,
-    }
+    lowered
 }

@@ -1,13 +1,7 @@
 -- What holds of a cut where it starts, and as long as it is lowered.
 use Rattle.std.specs.Prelude.{◌≡◌, true, List, ℕ, ◌≤◌, ◌<◌, length, get_or}
-use Rattle.xdr.specs.Words.{word}
 use Rattle.rules.specs.Records.{State, history, sends}
 use Rattle.rules.specs.Lines.{part, NoOrphan, failed, permitted, Permitted}
-use Rattle.rules.specs.Calls.{first, table_rows}
-
--- the table t meets none of its own rows, and has these dimensions, which then are within their ranges
-abbrev pub Laid : List ℕ → ℕ → ℕ → Type 0
-Laid t n E = (first (table_rows t) ≡ 0) × (n ≡ word t 0) × (E ≡ word t 1) × (n ≤ 16) × (E ≤ 1024)
 
 -- sixteen positions, those of the processes within their records, with the count of sends before each
 pub record Counted (s : State) (position counts : List ℕ) : Type 0 where

@@ -1,10 +1,17 @@
+use Rattle.std.proofs.Common.{eqb, sym, ap, ◌∙◌}
 use Rattle.xdr.specs.Words.{word}
-use Rattle.cuts.proofs.Scanned.{saved_zero, saved_next}
+use Rattle.rules.specs.Lines.{is_checkpoint}
+use Rattle.rules.specs.FailureLine.{last_saved}
+use Rattle.tables.proofs.Scans.{records_upto}
+use Rattle.cuts.proofs.Scanned.{saved_next}
+use Prim.Native.Nat.{zero-le}
 use Rattle.cuts.proofs.saved.Goals as goal
 
 pub returns-then-i-eq0 : goal.returns-then-i-eq0
-returns-then-i-eq0 c = let a = c.args in saved_zero (word a.t.now) a.at c.if-i-eq0.true
+returns-then-i-eq0 c = let r = c.args.records.now in
+    rw c.if-i-eq0.true (ap (λ h. eqb (last_saved h) 0) (sym (records_upto (word r.bytes.now) r.at 0 r.count zero-le)))
 
-pub returns : goal.returns
-returns c = let a = c.args in
-    saved_next (word a.t.now) a.at c.if-i-eq0.false c.get_usize-kind.ensures.0
+pub returns-else-i-eq0 : goal.returns-else-i-eq0
+returns-else-i-eq0 c = let r = c.args.records.now in
+    saved_next (word r.bytes.now) r.at c.if-i-eq0.false (c.is_checkpoint.ensures ∙ ap is_checkpoint c.get.ensures.event)
+    ∙ ap (λ h. eqb (last_saved h) c.args.i) (sym (records_upto (word r.bytes.now) r.at c.args.i r.count c.requires))

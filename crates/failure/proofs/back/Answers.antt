@@ -1,38 +1,32 @@
-use borrow.Author.Rules.{rules}
-use mathlib.Core.Path.{◌≡◌, refl, ap, ◌∙◌}
-use native.Mathlib.Omega.{arith}
-use lib.ListN.{length}
-use Rattle.tops.proofs.Starts.{processes}
+use Rattle.std.proofs.Common.{arith, ap, sym, length, ◌≡◌, ◌∙◌}
 use Rattle.rules.specs.Lines.{goes_back_at, mask_below}
-use Rattle.rules.specs.Table.{decoded}
-use Rattle.failure.proofs.FailureLine.{found_next}
+use Rattle.layout.specs.Tables.{state_of}
+use Rattle.layout.proofs.Sections.{processes}
+use Rattle.cuts.specs.Parts.{positions}
+use Rattle.cuts.proofs.Parts.{position_at}
+use Rattle.failure.proofs.FailureLine.{mask_fits, mask_with, mask_without}
 use Rattle.failure.proofs.back.Goals as goal
-
-pub loop-p-init : goal.loop-p-init
-loop-p-init c = ((refl, refl, omega arith, omega arith), search rules)
-
-pub goes_back-goes-requires : goal.goes_back-goes-requires
-goes_back-goes-requires c = let L = c.requires in
-    ((L.0, refl, L.2, omega arith, L.4), omega arith)
+use Rattle.failure.proofs.back.Goals.{then-goes_back, else-goes_back}
 
 pub overflow_add-back : goal.overflow_add-back
-overflow_add-back c = let a = c.args in
-    let s = c.loop-p in
-    let F = found_next a.mask (decoded a.t.now) a.position s.p (omega arith) s.invariant.0 c.bit.ensures
-    c.wide.ensures c.goes_back-goes.ensures c.pick-back.ensures in
-    omega (arith, F.2, F.3)
+overflow_add-back c = let t = c.args.table.now in
+    let n = t.laid.3 in
+    let l = mask_fits (goes_back_at c.args.mask (state_of t) (positions c.args.line.now)) c.loop-p.p (omega arith) c.loop-p.invariant in
+    omega arith
 
 pub loop-p-preserved : goal.loop-p-preserved
-loop-p-preserved c = let a = c.args in
-    let s = c.loop-p in (
-      found_next a.mask (decoded a.t.now) a.position s.p (omega arith) s.invariant.0 c.bit.ensures
-          c.wide.ensures c.goes_back-goes.ensures c.pick-back.ensures,
-      omega arith,
-    )
+loop-p-preserved c = let t = c.args.table.now in
+    let n = t.laid.3 in
+    let f = goes_back_at c.args.mask (state_of t) (positions c.args.line.now) in
+    let p = c.loop-p.p in
+    let is : f p ≡ c.goes_back.result = rw (position_at c.args.line.now p, ← c.bit.ensures) (sym c.goes_back.ensures) in
+    elim c.if-goes_back.branch [
+      | then-goes_back w ↦ w.back-is ∙ mask_with f p (omega arith) c.loop-p.invariant (is ∙ w.if-goes_back.true)
+      | else-goes_back w ↦ w.back-is ∙ mask_without f p (omega arith) c.loop-p.invariant (is ∙ w.if-goes_back.false)
+    ]
 
 pub returns : goal.returns
-returns c = let a = c.args in
-    let s = c.loop-p in
-    let n = processes a.t.now (λ i. omega (arith, c.type_inv.t i)) c.requires in
-    let e : s.p ≡ length (decoded a.t.now) = omega arith in
-    s.invariant.0.0 ∙ ap (mask_below (goes_back_at a.mask (decoded a.t.now) a.position)) e
+returns c = let t = c.args.table.now in
+    let n = processes t in
+    let e : c.loop-p.p ≡ length (state_of t) = omega arith in
+    c.loop-p.invariant ∙ ap (mask_below (goes_back_at c.args.mask (state_of t) (positions c.args.line.now))) e

@@ -1,12 +1,7 @@
-use Prim.Native.Nat.{◌-◌, ◌≤◌}
-use mathlib.Core.Path.{◌≡◌}
-use lib.ListN.{length}
-use Rattle.rules.specs.Table.{decoded}
+use Rattle.std.proofs.Common.{◌≡◌, length}
+use Rattle.layout.specs.Tables.{state_of}
 use Rattle.tops.proofs.Starts.{Started}
 use Rattle.tops.proofs.tops.Given as goal
 
 abbrev pub invariant-loop-p : goal.invariant-loop-p
-invariant-loop-p l = (length l.position ≡ 16) × (length l.sends ≡ 16) × (l.p ≤ l.n) × Started l.mask (decoded l.t) l.position l.sends l.p
-
-abbrev pub decreases-loop-p : goal.decreases-loop-p
-decreases-loop-p l = l.n - l.p
+invariant-loop-p l = (length l.cut ≡ 16) × Started l.mask (state_of l.table) l.cut l.p
