@@ -106,7 +106,7 @@ pub fn first_unsent(t: &[u8], at: usize, c: usize, e: usize, p: u8, to: &[u8]) -
 // Notes from an index on where the sends go; how many there are.
 pub fn note(records: &Records, from: usize, to: &mut [u8]) -> usize
     requires { from + records.now.count < length to.old }
-    ensures { (to.new ≡ noted from (held records.now) to.old) × (result ≡ sends_of (held records.now)) }
+    ensures { (to.new ≡ noted from (held records.now) to.old) × (result ≡ sends_of (held records.now)) × (result ≤ records.now.count) }
 {
     let mut k = 0;
     for i in 0..records.count {
