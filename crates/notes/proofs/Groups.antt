@@ -1,34 +1,37 @@
 -- Senders that are noted one behind the other, and what is struck from their notes.
 use mathlib.Core.Path.{◌≡◌, refl, sym, ap, ◌∙◌, subst}
+use mathlib.Core.Logic.{◌≢◌, inl}
 use mathlib.Core.Bool.{Bool, true, false, cond, ◌&&◌}
 use mathlib.Core.List.{List}
-use Prim.Native.Nat.{ℕ, zero, suc, ◌+◌, ◌≤◌, ◌<◌, zero-le, ◌-◌}
+use Prim.Native.Nat.{ℕ, zero, suc, ◌+◌, ◌-◌, ◌≤◌, ◌<◌, zero-le}
+use native.Mathlib.Nat.{le_refl}
+use native.Mathlib.Numerals.{add-one}
 use native.Mathlib.Omega.{arith}
 use native.Mathlib.Decide.{dec_lt, ℕ_discrete}
 use lib.Dec.{ltb, eqb}
 use lib.ListN.{length, get_or, set, replicate, length-set}
+use lib.Seq.{get_or-set_other, get_or-set_same}
+use borrow.Author.Tests.{ne_eqb, lt-ltb, le-ltb, eq-eqb}
+use Rattle.xdr.specs.Words.{word}
 use Rattle.rules.specs.Records.{History, State, sends, destination, has_receipt}
 use Rattle.rules.specs.Lines.{part}
-use Rattle.basics.proofs.Booleans.{clash, and_left, and_right}
-use Rattle.xdr.specs.Words.{word, words}
-use Rattle.notes.specs.Noted.{Cut, sent_below, Group, Fitting, left, Left}
-use native.Mathlib.Nat.{le_refl}
-use mathlib.Core.Logic.{◌≢◌, inl}
 use Rattle.tables.proofs.Laid.{Legal, sends_length}
-use borrow.Author.Tests.{ne_eqb, lt-ltb, le-ltb, eq-eqb, ltb-true}
-use lib.Seq.{get_or-set_other, get_or-set_same}
-use Rattle.cuts.specs.Notes.{noted, struck}
+use Rattle.cuts.specs.declared.Span.{Span}
+use Rattle.cuts.specs.Notes.{span_of, Inside, noted, struck}
 use Rattle.cuts.proofs.Notes.{struck_at, struck_length, noted_sent, noted_other, noted_length}
-use native.Mathlib.Numerals.{add-one}
-use Rattle.xdr.proofs.Words.{Bytes}
-use Rattle.rules.specs.Table.{decoded, start, records_at, heading}
-use Rattle.notes.proofs.Places.{placed, part_legal}
-use Rattle.tables.proofs.WellLaid.{records_length}
+use Rattle.notes.specs.declared.cut.Cut.{Cut}
+use Rattle.notes.specs.declared.Senders.{Senders}
+use Rattle.notes.specs.Noted.{state_at, places, sent_below, none_from, Group, left, Left, Noted}
+use Rattle.notes.proofs.Places.{part_legal, part_length}
 
-zeros : (m r : ℕ) → get_or {A = ℕ} (replicate m 0) r 0 ≡ 0
-zeros zero r = refl
-zeros (suc m) zero = refl
-zeros (suc m) (suc r) = zeros m r
+-- one sender more, of which k sends are noted behind the others
+abbrev pub grown : Senders → ℕ → Senders
+grown g k = record { from = g.from; next = g.next + 1; many = g.many + k; spans = set g.spans g.next (record { start = g.many; count = k }) }
+
+blank : (m q : ℕ) → get_or {A = Span} (replicate m (record { start = 0; count = 0 })) q (record { start = 0; count = 0 }) ≡ record { start = 0; count = 0 }
+blank zero q = refl
+blank (suc m) zero = refl
+blank (suc m) (suc q) = blank m q
 
 module _ (s : State) (cut : List ℕ) where
   sent_mono : (q x : ℕ) → sent_below s cut q ≤ sent_below s cut (q + x)
@@ -54,29 +57,28 @@ module _ (s : State) (cut : List ℕ) where
 
   -- ---- the group
 
-  pub no_group : (q : ℕ) → Group s cut q q 0 (replicate 16 0) (replicate 16 0)
+  no_group : (q : ℕ) → Group s cut (none_from q)
   no_group q = record {
-    starts_length = refl;
-    counts_length = refl;
+    size = refl;
     start = λ r a b. absurd (omega arith);
     count = λ r a b. absurd (omega arith);
-    before = λ r a. (zeros 16 r, zeros 16 r);
-    behind = λ r a. (zeros 16 r, zeros 16 r);
+    before = λ r a. (ap (λ (x : Span). x.start) (blank 16 r), ap (λ (x : Span). x.count) (blank 16 r));
+    behind = λ r a. (ap (λ (x : Span). x.start) (blank 16 r), ap (λ (x : Span). x.count) (blank 16 r));
     all = omega arith;
   }
 
-  module _ (from next many : ℕ) (S N : List ℕ) (G : Group s cut from next many S N) where
+  module _ (g : Senders) (G : Group s cut g) where
     -- a process of which something is noted is in the group
-    in_group : (q : ℕ) → 0 < get_or N q 0 → (from ≤ q) × (q < next)
-    in_group q pos = go (dec_lt q from) (dec_lt q next)
+    in_group : (q : ℕ) → 0 < (span_of g.spans q).count → (g.from ≤ q) × (q < g.next)
+    in_group q pos = go (dec_lt q g.from) (dec_lt q g.next)
       where
-        go : Dec (q < from) → Dec (q < next) → (from ≤ q) × (q < next)
+        go : Dec (q < g.from) → Dec (q < g.next) → (g.from ≤ q) × (q < g.next)
         go (yes l) x = let z = (G.before q l).1 in absurd (omega arith)
         go (no l) (yes x) = (omega arith, x)
         go (no l) (no x) = let z = (G.behind q (omega arith)).1 in absurd (omega arith)
 
-    pub group_only : (q k : ℕ) → from ≤ q → q < next → 0 < k → k ≤ sends (part s cut q) → (r j : ℕ) → 0 < j → j ≤ get_or N r 0
-        → get_or S r 0 + j ≡ get_or S q 0 + k → (r ≡ q) × (j ≡ k)
+    group_only : (q k : ℕ) → g.from ≤ q → q < g.next → 0 < k → k ≤ sends (part s cut q) → (r j : ℕ) → 0 < j → j ≤ (span_of g.spans r).count
+        → (span_of g.spans r).start + j ≡ (span_of g.spans q).start + k → (r ≡ q) × (j ≡ k)
     group_only q k a b c d r j x y e =
         let i = in_group r (omega arith) in
         let z = G.count r i.0 i.1 in
@@ -85,71 +87,65 @@ module _ (s : State) (cut : List ℕ) where
         one_place r j q k x (omega arith) c d (omega arith)
 
     -- its notes are among all
-    pub group_past : (q : ℕ) → from ≤ q → q < next → get_or S q 0 + sends (part s cut q) ≤ many
-    group_past q a b = let m = sent_past q next b in let u = G.start q a b in let v = G.all in omega arith
+    pub group_past : (q : ℕ) → g.from ≤ q → q < g.next → (span_of g.spans q).start + sends (part s cut q) ≤ g.many
+    group_past q a b = let m = sent_past q g.next b in let u = G.start q a b in let v = G.all in omega arith
 
-    pub group_fitting : {len : ℕ} → many < len → ((q : ℕ) → sends (part s cut q) ≤ 1024) → Fitting S N len
-    group_fitting {len} lt most = record {
-      starts_length = G.starts_length;
-      counts_length = G.counts_length;
-      inside = λ q. (at q (dec_lt q from) (dec_lt q next)).0;
-      few = λ q. (at q (dec_lt q from) (dec_lt q next)).1;
-    }
+    pub group_inside : {len : ℕ} → g.many < len → Inside g.spans len
+    group_inside {len} lt q = at (dec_lt q g.from) (dec_lt q g.next)
       where
-        at : (q : ℕ) → Dec (q < from) → Dec (q < next) → (get_or S q 0 + get_or N q 0 < len) × (get_or N q 0 ≤ 1024)
-        at q (yes l) x = let z = G.before q l in let u = z.0 in let v = z.1 in (omega arith, omega arith)
-        at q (no l) (no x) = let z = G.behind q (omega arith) in let u = z.0 in let v = z.1 in (omega arith, omega arith)
-        at q (no l) (yes x) =
+        at : Dec (q < g.from) → Dec (q < g.next) → (span_of g.spans q).start + (span_of g.spans q).count < len
+        at (yes l) x = let z = G.before q l in let u = z.0 in let v = z.1 in omega arith
+        at (no l) (no x) = let z = G.behind q (omega arith) in let u = z.0 in let v = z.1 in omega arith
+        at (no l) (yes x) =
             let z = G.count q (omega arith) x in
             let m = group_past q (omega arith) x in
-            let f = most q in
-            (omega arith, omega arith)
+            omega arith
 
     -- one sender more
-    pub group_next : from ≤ next → next < 16 → {k : ℕ} → k ≡ sends (part s cut next)
-        → Group s cut from (next + 1) (many + k) (set S next many) (set N next k)
+    other : (k q : ℕ) → q ≢ g.next → span_of (grown g k).spans q ≡ span_of g.spans q
+    other k q ne = get_or-set_other g.spans g.next q (record { start = g.many; count = k }) (record { start = 0; count = 0 }) ne
+
+    same : (k q : ℕ) → g.next < 16 → q ≡ g.next → span_of (grown g k).spans q ≡ record { start = g.many; count = k }
+    same k q few e = let l = G.size in rw e (get_or-set_same g.spans g.next (record { start = g.many; count = k }) (record { start = 0; count = 0 }) (omega arith))
+
+    group_next : g.from ≤ g.next → g.next < 16 → {k : ℕ} → k ≡ sends (part s cut g.next) → Group s cut (grown g k)
     group_next le few {k} e = record {
-      starts_length = length-set S next many ∙ G.starts_length;
-      counts_length = length-set N next k ∙ G.counts_length;
-      start = λ q a b. start_at q a b (ℕ_discrete q next);
-      count = λ q a b. count_at q a b (ℕ_discrete q next);
-      before = λ q a. (other S many q (omega arith) ∙ (G.before q a).0, other N k q (omega arith) ∙ (G.before q a).1);
-      behind = λ q a. (other S many q (omega arith) ∙ (G.behind q (omega arith)).0, other N k q (omega arith) ∙ (G.behind q (omega arith)).1);
-      all = let m = G.all in rw (add-one next) (omega arith);
+      size = length-set g.spans g.next (record { start = g.many; count = k }) ∙ G.size;
+      start = λ q a b. start_at q a b (ℕ_discrete q g.next);
+      count = λ q a b. count_at q a b (ℕ_discrete q g.next);
+      before = λ q a. let z = other k q (omega arith) in rw z (G.before q a);
+      behind = λ q a. let z = other k q (omega arith) in rw z (G.behind q (omega arith));
+      all = let m = G.all in rw (add-one g.next) (omega arith);
     }
       where
-        other : (l : List ℕ) (x q : ℕ) → q ≢ next → get_or (set l next x) q 0 ≡ get_or l q 0
-        other l x q ne = get_or-set_other l next q x 0 ne
+        start_at : (q : ℕ) → g.from ≤ q → q < g.next + 1 → Dec (q ≡ g.next)
+            → (span_of (grown g k).spans q).start + sent_below s cut g.from ≡ sent_below s cut q
+        start_at q a b (yes z) = rw (same k q few z, z) G.all
+        start_at q a b (no z) = rw (other k q z) (G.start q a (omega arith))
 
-        start_at : (q : ℕ) → from ≤ q → q < next + 1 → Dec (q ≡ next) → get_or (set S next many) q 0 + sent_below s cut from ≡ sent_below s cut q
-        start_at q a b (yes z) =
-            let l = G.starts_length in
-            rw (z, get_or-set_same S next many 0 (omega arith)) G.all
-        start_at q a b (no z) = rw (other S many q z) (G.start q a (omega arith))
-
-        count_at : (q : ℕ) → from ≤ q → q < next + 1 → Dec (q ≡ next) → get_or (set N next k) q 0 ≡ sends (part s cut q)
-        count_at q a b (yes z) = let l = G.counts_length in rw (z, get_or-set_same N next k 0 (omega arith)) e
-        count_at q a b (no z) = other N k q z ∙ G.count q a (omega arith)
+        count_at : (q : ℕ) → g.from ≤ q → q < g.next + 1 → Dec (q ≡ g.next) → (span_of (grown g k).spans q).count ≡ sends (part s cut q)
+        count_at q a b (yes z) = rw (same k q few z, z) e
+        count_at q a b (no z) = rw (other k q z) (G.count q a (omega arith))
 
     -- its sends are noted behind the others, and nothing is struck yet
-    pub notes_next : (n E : ℕ) → n ≤ 16 → from ≤ next → next < n → Legal n E next (part s cut next) → (to : List ℕ)
-        → many + length (part s cut next) < length to → Left s cut 0 from next S to
-        → {u : List ℕ} → u ≡ noted many (part s cut next) to → Left s cut 0 from (next + 1) (set S next many) u
-    notes_next n E few le lt legal to room L {u} e q k a b c d = go (ℕ_discrete q next)
+    notes_next : (n E : ℕ) → n ≤ 16 → g.from ≤ g.next → g.next < n → Legal n E g.next (part s cut g.next) → (to : List ℕ)
+        → g.many + length (part s cut g.next) < length to → Left s cut 0 g to → (j : ℕ) → Left s cut 0 (grown g j) (noted g.many (part s cut g.next) to)
+    notes_next n E few le lt legal to room L j q k a b c d = go (ℕ_discrete q g.next)
       where
+        u : List ℕ
+        u = noted g.many (part s cut g.next) to
+
         none : (x : ℕ) → x ≡ cond (ltb x 0 && has_receipt (part s cut x) q k) 16 x
         none x = rw (le-ltb x 0 zero-le)
 
-        go : Dec (q ≡ next) → get_or u (get_or (set S next many) q 0 + k) 0 ≡ left s cut 0 q k
+        go : Dec (q ≡ g.next) → get_or u ((span_of (grown g j).spans q).start + k) 0 ≡ left s cut 0 q k
         go (yes z) =
-            let l = G.starts_length in
-            let i : get_or (set S next many) q 0 ≡ many = ap (λ (x : ℕ). get_or (set S next many) x 0) z ∙ get_or-set_same S next many 0 (omega arith) in
-            let m : k ≤ sends (part s cut next) = subst (λ (x : ℕ). k ≤ sends (part s cut x)) z d in
-            rw (i, e) (noted_sent many to n E next few (part s cut next) legal room k c m
+            let m : k ≤ sends (part s cut g.next) = subst (λ (x : ℕ). k ≤ sends (part s cut x)) z d in
+            rw (same j q (omega arith) z) (noted_sent g.many to n E g.next few (part s cut g.next) legal room k c m
             ∙ ap (λ (x : ℕ). destination (part s cut x) k) (sym z) ∙ none (destination (part s cut q) k))
         go (no z) =
             let past = group_past q a (omega arith) in
-            rw (get_or-set_other S next q many 0 z, e) (noted_other many to (part s cut next) (get_or S q 0 + k) (inl (omega arith))
+            rw (other j q z) (noted_other g.many to (part s cut g.next) ((span_of g.spans q).start + k) (inl (omega arith))
             ∙ L q k a (omega arith) c d)
 
     -- ---- receipts
@@ -179,81 +175,65 @@ module _ (s : State) (cut : List ℕ) where
             rw (le-ltb d p (omega arith), lt-ltb d (p + 1) (omega arith), h, eq-eqb d p e)
         go (no l) (no e) = rw (le-ltb d p (omega arith), le-ltb d (p + 1) (omega arith), ne_eqb d p e)
 
-    pub strike_next : (n E p : ℕ) → n ≤ 16 → p < n → next ≤ n → Legal n E p (part s cut p) → (to : List ℕ) → many < length to
-        → Left s cut p from next S to → {u : List ℕ} → u ≡ struck S N p (part s cut p) to
-        → Left s cut (p + 1) from next S u × (length u ≡ length to)
-    strike_next n E p few lt less legal to room L {u} e =
-        (λ q k a b c d. at q k a b c d, ap length e ∙ struck_length S N p to (part s cut p))
-      where
-        at : (q k : ℕ) → from ≤ q → q < next → 0 < k → k ≤ sends (part s cut q) → get_or u (get_or S q 0 + k) 0 ≡ left s cut (p + 1) q k
-        at q k a b c d =
-            let past = group_past q a b in
-            let count = G.count q a b in
-            rw e
-            (struck_at S N p to n E p q k few (omega arith) (omega arith) (omega arith) c (omega arith)
-            (λ r j l x y z. group_only q k a b c d r j x y z) (part s cut p) legal
-            ∙ ap (λ (x : ℕ). cond (eqb x p && has_receipt (part s cut p) q k) 16 x) (L q k a b c d) ∙ left_next p q k (omega arith))
+    strike_next : (n E p : ℕ) → n ≤ 16 → p < n → g.next ≤ n → Legal n E p (part s cut p) → (to : List ℕ) → g.many < length to
+        → Left s cut p g to → Left s cut (p + 1) g (struck g.spans p (part s cut p) to)
+    strike_next n E p few lt less legal to room L q k a b c d =
+        let past = group_past q a b in
+        let count = G.count q a b in
+        struck_at g.spans p to n E p q k few (omega arith) (omega arith) (omega arith) c (omega arith)
+        (λ r j l x y z. group_only q k a b c d r j x y z) (part s cut p) legal
+        ∙ ap (λ (x : ℕ). cond (eqb x p && has_receipt (part s cut p) q k) 16 x) (L q k a b c d) ∙ left_next p q k (omega arith)
 
--- ---- on a table
+-- ---- at a cut
 
--- whether a process is there and its records fit
-pub room_yes : (q n x len : ℕ) {r : Bool} → r ≡ (ltb q n && ltb x len) → r ≡ true → (q < n) × (x < len)
-room_yes q n x len e y =
-    let t = sym e ∙ y in
-    (ltb-true q n (and_left (ltb q n) (ltb x len) t), ltb-true x len (and_right (ltb q n) (ltb x len) t))
+pub none_noted : (c : Cut) (q p : ℕ) → q ≤ c.table.n → (to : List ℕ) → 0 < length to → Noted c p (none_from q) to
+none_noted c q p le to room = record {
+  group = no_group (state_at c) (places c) q;
+  notes = λ r k a b. absurd (omega arith);
+  order = le_refl q;
+  most = le;
+  room = room;
+}
 
-pub room_there : (q n x len : ℕ) {r : Bool} → q < n → x < len → r ≡ (ltb q n && ltb x len) → r ≡ false → ⊥
-room_there q n x len lt l e f = clash (ltb q n && ltb x len) (rw (lt-ltb q n lt, lt-ltb x len l)) (sym e ∙ f)
-
-module _ (t : List ℕ) (b : Bytes t) (positions : List ℕ) {n E : ℕ} (C : Cut t positions n E) (from next many : ℕ) (S N : List ℕ)
-    (G : Group (decoded t) (words positions) from next many S N) where
-  abbrev recs : State
-  recs = decoded t
-
-  abbrev at_cut : List ℕ
-  at_cut = words positions
-
+module _ (c : Cut) (g : Senders) (to : List ℕ) where
   -- one sender more is noted
-  pub note_turn : from ≤ next → next < n → (to : List ℕ) → Left recs at_cut 0 from next S to
-      → {at x : ℕ} → at ≡ start E next → x ≡ word positions next → many + x < length to
-      → {u : List ℕ} {k : ℕ} → u ≡ noted many (records_at (word t) (at + heading) x) to → k ≡ sends (records_at (word t) (at + heading) x)
-      → Group recs at_cut from (next + 1) (many + k) (set S next many) (set N next k) × Left recs at_cut 0 from (next + 1) (set S next many) u
-      × (many + k < length u) × (length u ≡ length to)
-  note_turn le lt to L {at} {x} i y room {u} {k} e f =
-      let P = placed t b positions C next lt i y in
-      let few = C.laid.3 in
-      let h = part recs at_cut next in
-      let short : length h ≡ x = ap length P.here ∙ records_length (word t) (at + heading) x in
-      let is : k ≡ sends h = f ∙ ap sends (sym P.here) in
-      let same : u ≡ noted many h to = e ∙ ap (λ (l : History). noted many l to) (sym P.here) in
-      let len = ap length same ∙ noted_length many to h in
-      let l = sends_length h in (
-        group_next recs at_cut from next many S N G le (omega arith) is,
-        notes_next recs at_cut from next many S N G n E few le lt (part_legal t b positions C next) to (omega arith) L same,
-        omega arith,
+  pub note_turn : Noted c 0 g to → g.next < c.table.n → g.many + word c.positions.now g.next < length to
+      → {h : History} → h ≡ part (state_at c) (places c) g.next → {u : List ℕ} {k : ℕ} → u ≡ noted g.many h to → k ≡ sends h
+      → Noted c 0 (grown g k) u × (length u ≡ length to)
+  note_turn N lt room i {u} {k} v x =
+      let h = part (state_at c) (places c) g.next in
+      let e : u ≡ noted g.many h to = v ∙ ap (λ (y : History). noted g.many y to) i in
+      let f : k ≡ sends h = x ∙ ap sends i in
+      let few = c.table.laid.3 in
+      let short = part_length c g.next lt in
+      let l = sends_length h in
+      let len = ap length e ∙ noted_length g.many to h in
+      let most = N.most in (
+        record {
+          group = group_next (state_at c) (places c) g N.group N.order (omega arith) f;
+          notes = subst (Left (state_at c) (places c) 0 (grown g k)) (sym e)
+              (notes_next (state_at c) (places c) g N.group c.table.n c.table.e few N.order lt (part_legal c g.next) to (omega arith) N.notes k);
+          order = let o = N.order in omega arith;
+          most = omega arith;
+          room = omega arith;
+        },
         len,
       )
 
-  -- at least one is
-  pub some_noted : from ≤ next → from < n → (len : ℕ) → E < len → {r : Bool} → r ≡ (ltb next n && ltb (many + word positions next) len) → r ≡ false
-      → from < next
-  some_noted le lt len room e f = go (dec_lt from next)
-    where
-      go : Dec (from < next) → from < next
-      go (yes l) = l
-      go (no l) =
-          let z : from ≡ next = omega arith in
-          let m = ap (sent_below recs at_cut) z in
-          let a = G.all in
-          let P = placed t b positions C next (omega arith) refl refl in
-          let small = P.small in
-          absurd (room_there next n (many + word positions next) len (omega arith) (omega arith) e f)
-
   -- one receiver more
-  pub strike_turn : next ≤ n → (p : ℕ) → p < n → (to : List ℕ) → many < length to → Left recs at_cut p from next S to
-      → {at x : ℕ} → at ≡ start E p → x ≡ word positions p → {u : List ℕ} → u ≡ struck S N p (records_at (word t) (at + heading) x) to
-      → Left recs at_cut (p + 1) from next S u × (length u ≡ length to)
-  strike_turn less p lt to room L i y e =
-      let P = placed t b positions C p lt i y in
-      strike_next recs at_cut from next many S N G n E p C.laid.3 lt less (part_legal t b positions C p) to room L
-      (e ∙ ap (λ (h : History). struck S N p h to) (sym P.here))
+  pub strike_turn : {p : ℕ} → Noted c p g to → p < c.table.n → {h : History} → h ≡ part (state_at c) (places c) p → {u : List ℕ}
+      → u ≡ struck g.spans p h to → Noted c (p + 1) g u × (length u ≡ length to)
+  strike_turn {p} N lt i {u} x =
+      let e : u ≡ struck g.spans p (part (state_at c) (places c) p) to = x ∙ ap (λ (y : History). struck g.spans p y to) i in
+      let len = ap length e ∙ struck_length g.spans p to (part (state_at c) (places c) p) in
+      let room = N.room in (
+        record {
+          group = N.group;
+          notes = subst (Left (state_at c) (places c) (p + 1) g) (sym e)
+              (strike_next (state_at c) (places c) g N.group c.table.n c.table.e p c.table.laid.3 lt N.most (part_legal c p) to N.room N.notes);
+          order = N.order;
+          most = N.most;
+          room = omega arith;
+        },
+        len,
+      )

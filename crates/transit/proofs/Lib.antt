@@ -1,2 +1,2 @@
-pub mod Marked
-pub mod Turns
+pub mod Numbers
+pub mod Walks

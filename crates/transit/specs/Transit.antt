@@ -1,47 +1,48 @@
--- The messages that are noted as in transit, and what is written of them.
-use Rattle.std.specs.Prelude.{◌≡◌, cond, List, [], ◌∷◌, ◌++◌, ℕ, zero, suc, ◌+◌, ◌-◌, ◌*◌, ◌≤◌, ltb, length, get_or}
-use Rattle.xdr.specs.Words.{words, put_words}
+-- A walk through the messages in transit at a cut.
+use Rattle.std.specs.Prelude.{◌≡◌, Bool, ltb, List, [], ◌∷◌, ◌++◌, ℕ, zero, suc, ◌+◌, ◌≤◌, length, Option, Some, None}
 use Rattle.rules.specs.Records.{State, history, sends}
-use Rattle.rules.specs.Table.{decoded}
-use Rattle.rules.specs.Resend.{Message, message, in_transit, messages_words}
-
--- ---- the messages that a list notes
-
--- of the first k sends of process q, which is noted from an index on
-abbrev pub marked : List ℕ → ℕ → ℕ → ℕ → List Message
-marked to from q zero = []
-marked to from q (suc k) =
-    let p = get_or to (from + suc k) 0 in
-    marked to from q k ++ cond (ltb p 16) (message q (suc k) p ∷ []) []
-
--- of m processes from q on
-abbrev pub marked_of : List ℕ → List ℕ → List ℕ → ℕ → ℕ → List Message
-marked_of to starts counts q zero = []
-marked_of to starts counts q (suc m) = marked_of to starts counts q m ++ marked to (get_or starts (q + m) 0) (q + m) (get_or counts (q + m) 0)
-
--- of the processes before `next`
-abbrev pub marked_in : List ℕ → ℕ → ℕ → List ℕ → List ℕ → List Message
-marked_in to q next starts counts = marked_of to starts counts q (next - q)
-
--- how many there are up to index i
-abbrev pub marks : List ℕ → ℕ → ℕ
-marks to zero = 0
-marks to (suc i) = marks to i + cond (ltb (get_or to (suc i) 0) 16) 1 0
-
--- ---- the answer
+use Rattle.rules.specs.Lines.{part}
+use Rattle.rules.specs.Resend as rules
+use Rattle.notes.specs.declared.cut.Cut.{Cut}
+use Rattle.notes.specs.Noted.{state_at, places, none_from, Noted}
+use Rattle.transit.specs.declared.Message.{Message}
+use Rattle.transit.specs.declared.Walk.{Walk}
 
 -- the messages in transit
-abbrev pub transit_at : List ℕ → List ℕ → List Message
-transit_at t positions = in_transit (decoded t) (words positions)
-
--- an area has room for messages behind c others; once they are written there, r messages are
-abbrev pub Fits : List Message → ℕ → List ℕ → Type 0
-Fits ms c a = 4 * (1 + 3 * (c + length ms)) ≤ length a
-
-abbrev pub Written : List Message → ℕ → ℕ → List ℕ → List ℕ → Type 0
-Written ms c r a b = (r ≡ c + length ms) × (b ≡ put_words a (1 + 3 * c) (messages_words ms))
+abbrev pub transit_at : Cut → List rules.Message
+transit_at c = rules.in_transit (state_at c) (places c)
 
 -- how many sends the processes below q have made, inside the cut and after it
 abbrev pub sends_below : State → ℕ → ℕ
 sends_below s zero = 0
 sends_below s (suc q) = sends_below s q + sends (history s q)
+
+-- ---- the walk
+
+-- a note that isn't struck
+abbrev pub is_left : ℕ → Bool
+is_left d = ltb d 16
+
+abbrev pub at_start : Walk
+at_start = record { senders = none_from 0; q = 0; k = 0 }
+
+-- the senders that are noted are those from which it goes on, or all before them, and some of q's sends in the cut are passed
+pub record Stands (c : Cut) (w : Walk) (to : List ℕ) : Type 0 where
+  pub noted : Noted c c.table.n w.senders to
+  pub from : w.senders.from ≤ w.q
+  pub until : w.q ≤ w.senders.next
+  pub sent : w.k ≤ sends (part (state_at c) (places c) w.q)
+  pub fresh : w.q ≡ w.senders.next → w.k ≡ 0
+
+-- the messages that it has passed
+abbrev pub passed : Cut → Walk → List rules.Message
+passed c w = rules.transit_below (state_at c) (places c) w.q ++ rules.transit_of (state_at c) (places c) w.q w.k
+
+-- they are no more than all, and these no more than a table has records
+abbrev pub Few : Cut → Walk → Type 0
+Few c w = (length (passed c w) ≤ length (transit_at c)) × (length (transit_at c) ≤ 16384)
+
+-- it passes this message, or has passed all where there is none
+abbrev pub Passes : Cut → Walk → Option Message → Walk → Type 0
+Passes c v (Some m) w = passed c w ≡ passed c v ++ (rules.message m.sender m.k m.receiver ∷ [])
+Passes c v None w = passed c v ≡ transit_at c

@@ -1,98 +1,111 @@
 // The messages in transit at a cut, counted and listed (document 02, slip 1).
 #![tactic(auto)]
 
-ghost use Rattle.std.specs.Prelude.{◌≡◌, ◌+◌, ◌*◌, ◌≤◌, ◌<◌, length};
+ghost use Rattle.std.specs.Prelude.{◌≡◌, ◌+◌, ◌*◌, ◌≤◌, ◌<◌, length, position};
 ghost use Rattle.xdr.specs.Words.{put_words};
 ghost use Rattle.rules.specs.Resend.{messages_words};
-ghost use Rattle.notes.specs.Noted.{Cut, Fitting};
-ghost use Rattle.transit.specs.Transit.{marked, marked_in, marks as marks_of, transit_at, Fits, Written};
+ghost use Rattle.notes.specs.Noted.{HasRoom};
+ghost use Rattle.transit.specs.Transit.{transit_at, is_left, at_start, Stands, passed, Passes, Few};
 
-// ---- the count
+use notes::{Cut, Senders};
 
-// How many of the notes up to index len are of a message in transit.
-fn marks(to: &[u8], len: usize) -> usize
-    requires { len < length to.now }
-    ensures { result ≡ marks_of to.now len }
+// Send k of the sender.
+#[derive(Clone, Copy, Drop)]
+struct Message {
+    sender: u32,
+    k: u32,
+    receiver: u32,
+}
+
+// Where the first of some notes is that is left.
+fn first_left(notes: &[u8]) -> Option<usize>
+    ensures { result ≡ position is_left notes.now }
 {
-    let mut count: usize = 0;
-    let mut i: usize = 0;
-    while i < len {
-        i += 1;
-        count += shape::pick(to[i] < 16, 1, 0);
+    notes.iter().position(|d| *d < 16)
+}
+
+// A walk through the messages in transit, by sender and then send number: the first k sends of process q are passed, and all of those
+// before it. The senders are noted some at a time.
+#[derive(Clone, Copy, Drop)]
+struct Walk {
+    senders: Senders,
+    q: usize,
+    k: usize,
+}
+
+impl Walk {
+    fn start() -> Walk
+        ensures { result ≡ at_start }
+    {
+        Walk {
+            senders: Senders::none(0),
+            q: 0,
+            k: 0,
+        }
     }
-    count
+
+    // Notes senders from process q on, where those that are noted are passed.
+    fn note(&mut self, cut: &Cut, to: &mut [u8])
+        requires { Stands cut.now self.old to.old × (self.old.q < cut.now.table.n) × HasRoom cut.now (length to.old) }
+        ensures { Stands cut.now self.new to.new × (self.new.q < self.new.senders.next) × (self.new.q ≡ self.old.q) × (passed cut.now self.new ≡ passed cut.now self.old) × (length to.new ≡ length to.old) }
+    {
+        if self.q == self.senders.next {
+            self.senders = notes::note_transit(cut, self.q, to);
+        }
+    }
+
+    // The next message; `to` is room for notes.
+    fn next(&mut self, cut: &Cut, to: &mut [u8]) -> Option<Message>
+        requires { Stands cut.now self.old to.old × HasRoom cut.now (length to.old) }
+        ensures { Stands cut.now self.new to.new × Passes cut.now self.old result self.new × Few cut.now self.new × (length to.new ≡ length to.old) }
+    {
+        while self.q < cut.table.n {
+            self.note(cut, to);
+            let span = self.senders.spans[self.q];
+            let start = span.start as usize + 1;
+            let rest = &to[start + self.k..start + span.count as usize];
+            if let Some(i) = first_left(rest) {
+                self.k += i + 1;
+                return Some(Message {
+                    sender: self.q as u32,
+                    k: self.k as u32,
+                    receiver: rest[i] as u32,
+                });
+            }
+            self.q += 1;
+            self.k = 0;
+        }
+        None
+    }
 }
 
 // How many messages are in transit; `to` is room for notes.
-pub fn count(t: &[u8], positions: &[u8], n: usize, e: usize, to: &mut [u8]) -> usize
-    requires { Cut t.now positions.now n e × (e < length to.old) × (length to.old ≤ 65536) }
-    ensures { (result ≡ length (transit_at t.now positions.now)) × (length to.new ≡ length to.old) }
+pub fn count(cut: &Cut, to: &mut [u8]) -> usize
+    requires { HasRoom cut.now (length to.old) }
+    ensures { (result ≡ length (transit_at cut.now)) × (result ≤ 16384) × (length to.new ≡ length to.old) }
 {
-    let mut count: usize = 0;
-    let mut q: usize = 0;
-    while q < n {
-        let senders = notes::note_transit(t, positions, n, e, q, to);
-        count += marks(to, senders.many);
-        q = senders.next;
+    let mut walk = Walk::start();
+    let mut count = 0;
+    while let Some(_) = walk.next(cut, to) {
+        count += 1;
     }
     count
 }
 
-// ---- the list
-
-// Writes the messages in transit from process q, which is noted from an index on with m sends, behind c others; how many there are then.
-fn list_sender(area: &mut [u8], q: usize, from: usize, m: usize, to: &[u8], c: usize) -> usize
-    requires { (q < 16) × (m ≤ 1024) × (from + m < length to.now) × Fits (marked to.now from q m) c area.old }
-    ensures { Written (marked to.now from q m) c result area.old area.new }
+// Writes them; how many there are.
+pub fn list(cut: &Cut, area: &mut [u8], to: &mut [u8]) -> usize
+    requires { HasRoom cut.now (length to.old) × (4 + 12 * length (transit_at cut.now) ≤ length area.old) }
+    ensures { (result ≡ length (transit_at cut.now)) × (result ≤ 16384) × (area.new ≡ put_words area.old 1 (messages_words (transit_at cut.now))) }
 {
-    let mut count = c;
-    let mut k: usize = 0;
-    while k < m {
-        k += 1;
-        let p = to[from + k];
-        if p < 16 {
-            xdr::put_three(area, 1 + 3 * count, q as u32, k as u32, p as u32);
-            count += 1;
-        }
-    }
-    count
-}
-
-// Writes those of all senders that are noted.
-fn list_senders(area: &mut [u8], senders: notes::Senders, to: &[u8], c: usize) -> usize
-    requires { (senders.from ≤ senders.next) × (senders.next ≤ 16) × Fitting senders.starts senders.counts (length to.now) × Fits (marked_in to.now senders.from senders.next senders.starts senders.counts) c area.old }
-    ensures { Written (marked_in to.now senders.from senders.next senders.starts senders.counts) c result area.old area.new }
-{
-    let starts = senders.starts;
-    let counts = senders.counts;
-    let next = senders.next;
-    let mut count = c;
-    let mut q = senders.from;
-    while q < next {
-        count = list_sender(
+    let mut walk = Walk::start();
+    let mut count = 0;
+    while let Some(message) = walk.next(cut, to) {
+        xdr::put_all(
             area,
-            q,
-            cuts::wide(starts[q]),
-            cuts::wide(counts[q]),
-            to,
-            count,
+            1 + 3 * count,
+            [message.sender, message.k, message.receiver],
         );
-        q += 1;
-    }
-    count
-}
-
-// Writes all; how many there are.
-pub fn list(t: &[u8], positions: &[u8], area: &mut [u8], n: usize, e: usize, to: &mut [u8]) -> usize
-    requires { Cut t.now positions.now n e × (e < length to.old) × (length to.old ≤ 65536) × (4 + 12 * length (transit_at t.now positions.now) ≤ length area.old) }
-    ensures { (result ≡ length (transit_at t.now positions.now)) × (area.new ≡ put_words area.old 1 (messages_words (transit_at t.now positions.now))) }
-{
-    let mut count: usize = 0;
-    let mut q: usize = 0;
-    while q < n {
-        let senders = notes::note_transit(t, positions, n, e, q, to);
-        count = list_senders(area, senders, &to[..], count);
-        q = senders.next;
+        count += 1;
     }
     count
 }

@@ -1,13 +1,9 @@
-use mathlib.Core.Path.{◌≡◌}
-use Prim.Native.Nat.{◌-◌, ◌≤◌}
-use lib.ListN.{length}
-use Rattle.rules.specs.Resend.{transit_below}
-use Rattle.rules.specs.Table.{decoded}
-use Rattle.xdr.specs.Words.{words}
+use Rattle.std.proofs.Common.{◌≡◌, ◌-◌, length}
+use Rattle.transit.specs.Transit.{transit_at, Stands, passed}
 use Rattle.transit.proofs.count.Given as goal
 
-abbrev pub invariant-loop-q : goal.invariant-loop-q
-invariant-loop-q l = (l.count ≡ length (transit_below (decoded l.t) (words l.positions) l.q)) × (l.q ≤ l.n) × (length l.to ≡ length l.initial.to) × (l.count ≤ 16384)
+abbrev pub invariant-loop-count : goal.invariant-loop-count
+invariant-loop-count l = Stands l.cut l.walk l.to × (l.count ≡ length (passed l.cut l.walk)) × (length l.to ≡ length l.initial.to)
 
-abbrev pub decreases-loop-q : goal.decreases-loop-q
-decreases-loop-q l = l.n - l.q
+abbrev pub decreases-loop-count : goal.decreases-loop-count
+decreases-loop-count l = length (transit_at l.cut) - l.count

@@ -1,0 +1,78 @@
+-- How many the messages in transit may be, and how they are written.
+use mathlib.Core.Path.{◌≡◌, refl, ap}
+use mathlib.Core.Bool.{Bool, true, false, cond}
+use mathlib.Core.List.{List, [], ◌∷◌, ◌++◌}
+use Prim.Native.Nat.{ℕ, zero, suc, ◌+◌, ◌*◌, ◌≤◌, zero-le}
+use native.Mathlib.Nat.{suc-mul, le_refl}
+use native.Mathlib.Omega.{arith}
+use lib.ListN.{length, length-append, get_or}
+use Rattle.xdr.specs.Words.{put_words}
+use Rattle.xdr.proofs.Puts.{put_append}
+use Rattle.rules.specs.Records.{State, history, sends, destination}
+use Rattle.rules.specs.Lines.{part}
+use Rattle.rules.specs.Resend.{Message, message, got, unless_got, transit_of, transit_below, messages_words}
+use Rattle.transit.specs.Transit.{sends_below}
+use Rattle.records.proofs.Histories.{sends_older}
+use Rattle.records.proofs.Cuts.{upto_is_older}
+
+module _ (s : State) (cut : List ℕ) where
+  of_length : (q k : ℕ) → length (transit_of s cut q k) ≤ k
+  of_length q zero = zero-le
+  of_length q (suc k) =
+      let r = of_length q k in
+      let l = length-append (transit_of s cut q k) (unless_got s cut q (suc k)) in
+      let o = one (got s cut q (suc k)) in
+      omega arith
+    where
+      one : (b : Bool) → length (cond b [] (message q (suc k) (destination (part s cut q) (suc k)) ∷ [])) ≤ 1
+      one true = zero-le
+      one false = omega arith
+
+  -- no more than were sent
+  pub transit_sends : (q : ℕ) → length (transit_below s cut q) ≤ sends_below s q
+  transit_sends zero = zero-le
+  transit_sends (suc q) =
+      let r = transit_sends q in
+      let l = length-append (transit_below s cut q) (transit_of s cut q (sends (part s cut q))) in
+      let a = of_length q (sends (part s cut q)) in
+      let b = sends_older (upto_is_older (get_or cut q 0) (history s q)) in
+      omega arith
+
+  -- the messages of those before are among all
+  pub of_mono : (q k x : ℕ) → length (transit_of s cut q k) ≤ length (transit_of s cut q (k + x))
+  of_mono q k zero = let e : k + 0 ≡ k = omega arith in rw e (le_refl (length (transit_of s cut q k)))
+  of_mono q k (suc x) =
+      let e : k + suc x ≡ suc (k + x) = omega arith in
+      let r = of_mono q k x in
+      let l = length-append (transit_of s cut q (k + x)) (unless_got s cut q (suc (k + x))) in
+      rw e (omega arith)
+
+  pub below_mono : (q x : ℕ) → length (transit_below s cut q) ≤ length (transit_below s cut (q + x))
+  below_mono q zero = let e : q + 0 ≡ q = omega arith in rw e (le_refl (length (transit_below s cut q)))
+  below_mono q (suc x) =
+      let e : q + suc x ≡ suc (q + x) = omega arith in
+      let r = below_mono q x in
+      let l = length-append (transit_below s cut (q + x)) (transit_of s cut (q + x) (sends (part s cut (q + x)))) in
+      rw e (omega arith)
+
+pub sends_few : (s : State) (E : ℕ) → ((q : ℕ) → sends (history s q) ≤ E) → (q : ℕ) → sends_below s q ≤ q * E
+sends_few s E short zero = zero-le
+sends_few s E short (suc q) = let r = sends_few s E short q in let a = short q in let e = suc-mul q E in omega arith
+
+-- ---- written
+
+messages_length : (ms : List Message) → length (messages_words ms) ≡ 3 * length ms
+messages_length [] = refl
+messages_length (message q k p ∷ ms) = let r = messages_length ms in omega arith
+
+messages_append : (ms ns : List Message) → messages_words (ms ++ ns) ≡ messages_words ms ++ messages_words ns
+messages_append [] ns = refl
+messages_append (message q k p ∷ ms) ns = ap (λ (l : List ℕ). q ∷ k ∷ p ∷ l) (messages_append ms ns)
+
+-- one message more, behind those that are written
+pub put_more : (a : List ℕ) (ms : List Message) (m : Message) {count : ℕ} {u v : List ℕ} → count ≡ length ms
+    → u ≡ put_words a 1 (messages_words ms) → v ≡ put_words u (1 + 3 * count) (messages_words (m ∷ []))
+    → v ≡ put_words a 1 (messages_words (ms ++ (m ∷ [])))
+put_more a ms m {count} e f g =
+    let i : 1 + 3 * count ≡ 1 + length (messages_words ms) = (let l = messages_length ms in omega arith) in
+    rw (g, f, messages_append ms (m ∷ [])) (put_append a 1 (messages_words ms) (messages_words (m ∷ [])) i)
