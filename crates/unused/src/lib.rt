@@ -1,18 +1,20 @@
 // The unused records of a table, which are zeros (document 01, "The table").
 #![tactic(auto)]
 
-ghost use Rattle.std.specs.Prelude.{◌≡◌, ◌+◌, ◌*◌, ◌≤◌, eqb, length, get_or};
+ghost use Rattle.std.specs.Prelude.{◌≡◌, ◌+◌, ◌-◌, ◌*◌, ◌≤◌, length};
 ghost use Rattle.xdr.specs.Words.{word};
-ghost use Rattle.rules.specs.Table.{heading, width, start as start_of};
+ghost use Rattle.rules.specs.Table.{heading, width, start as start_of, zeros_at};
 ghost use Rattle.tables.specs.Sections.{every, rear_ok};
 
-// Whether all bytes are 0. They are joined first, so that none has a branch of its own.
-fn is_zero(bytes: &[u8]) -> bool
-    ensures { result ≡ every (λ i. eqb (get_or bytes.now i 0) 0) (length bytes.now) }
+// Whether the records from the c-th to the e-th, which start at word `at`, are unused. Their words are joined, two at a time, so that none
+// has a branch of its own.
+fn is_unused(t: &[u8], at: usize, c: usize, e: usize) -> bool
+    requires { (c ≤ e) × (e ≤ 1024) × (4 * (at + width * e) ≤ length t.now) }
+    ensures { result ≡ zeros_at (word t.now) (at + width * c) (width * (e - c)) }
 {
     let mut joined = 0;
-    for byte in bytes {
-        joined |= *byte;
+    for i in 2 * c..2 * e {
+        joined |= xdr::raw_pair(t, at + 2 * i);
     }
     joined == 0
 }
@@ -26,10 +28,7 @@ fn rear(t: &[u8], e: usize, at: usize) -> bool
     if e < c {
         return false;
     }
-    let records = at + shape::HEADING;
-    let from = 4 * (records + shape::WIDTH * c);
-    let to = 4 * (records + shape::WIDTH * e);
-    is_zero(&t[from..to])
+    is_unused(t, at + shape::HEADING, c, e)
 }
 
 // Whether that holds of all n sections.

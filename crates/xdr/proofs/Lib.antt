@@ -1,2 +1,3 @@
 pub mod Words
 pub mod Puts
+pub mod Zeros
