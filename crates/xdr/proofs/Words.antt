@@ -101,15 +101,6 @@ top_byte v d e l = let t = top_lt v l in omega arith
 sum_lt : (x y z u v : ℕ) → x < 256 → y < 256 → z < 256 → u < 256 → x * 16777216 + y * 65536 + z * 256 + u ≡ v → v < 4294967296
 sum_lt x y z u v xl yl zl ul e = omega arith
 
--- four bytes joined with the least first, and turned
-pub turned_join : (a b c d v : ℕ) → a < 256 → b < 256 → c < 256 → d < 256 → v ≡ a + b * 256 + c * 65536 + d * 16777216
-    → turned v ≡ a * 16777216 + b * 65536 + c * 256 + d
-turned_join a b c d v al bl cl dl e =
-    let s : d * 16777216 + c * 65536 + b * 256 + a ≡ v = omega arith in
-    let x = byte_digits d c b a v dl cl bl al s in
-    let t = top_byte v d (sym x.0) (sum_lt d c b a v dl cl bl al s) in
-    rw (t, ← x.1, ← x.2, ← x.3)
-
 -- the bytes of v turned, the least first
 pub turned_bytes : (v w : ℕ) → v < 4294967296 → w ≡ turned v
     → (w % 256 ≡ v / 16777216 % 256) × (w / 256 % 256 ≡ v / 65536 % 256) × (w / 65536 % 256 ≡ v / 256 % 256) × (w / 16777216 ≡ v % 256)
@@ -123,31 +114,12 @@ turned_bytes v w l h =
           (sum_lt (v % 256) (v / 256 % 256) (v / 65536 % 256) (v / 16777216) w (byte_lt v) (byte_lt (v / 256)) (byte_lt (v / 65536)) al (sym h)),
     )
 
-no_digits : (x x' y z u v : ℕ) → u * 16777216 + z * 65536 + y * 256 + x ≡ 0 → x' ≡ x → x' * 16777216 + y * 65536 + z * 256 + u ≡ v → v ≡ 0
-no_digits x x' y z u v e i f = omega arith
+-- bytes swapped are turned
+pub swapped : (v : ℕ) → v < 4294967296 → v % 256 * 16777216 + v / 256 % 256 * 65536 + v / 65536 % 256 * 256 + v / 16777216 % 256 ≡ turned v
+swapped v l = ap (λ (x : ℕ). v % 256 * 16777216 + v / 256 % 256 * 65536 + v / 65536 % 256 * 256 + x) (mod-eq_of_lt (top_lt v l))
 
-turned_zero : (v : ℕ) → v < 4294967296 → eqb (turned v) 0 ≡ eqb v 0
-turned_zero v l = go (eqb v 0) refl
-  where
-    back : turned v ≡ 0 → v ≡ 0
-    back h = no_digits (v / 16777216) (v / 16777216 % 256) (v / 65536 % 256) (v / 256 % 256) (v % 256) v h (mod-eq_of_lt (top_lt v l)) (four v l)
-
-    go : (b : Bool) → eqb v 0 ≡ b → eqb (turned v) 0 ≡ b
-    go true h = rw (eqb-true v 0 h)
-    go false h = ne_eqb (turned v) 0 (λ z. eqb-false v 0 h (back z))
-
-halves_zero : (x y : ℕ) → eqb (x + y * 4294967296) 0 ≡ (eqb x 0 && eqb y 0)
-halves_zero x y = go (eqb x 0) (eqb y 0) refl refl
-  where
-    go : (a b : Bool) → eqb x 0 ≡ a → eqb y 0 ≡ b → eqb (x + y * 4294967296) 0 ≡ (a && b)
-    go true true g h = rw (eqb-true x 0 g, eqb-true y 0 h)
-    go true false g h = let n = eqb-false y 0 h in ne_eqb (x + y * 4294967296) 0 (omega arith)
-    go false b g h = let n = eqb-false x 0 g in ne_eqb (x + y * 4294967296) 0 (omega arith)
-
--- two words that are not turned, as one number
-pub raw_zero : (x y : ℕ) {u v : ℕ} → x < 4294967296 → y < 4294967296 → turned x ≡ u → turned y ≡ v
-    → eqb (x + y * 4294967296) 0 ≡ (eqb u 0 && eqb v 0)
-raw_zero x y xl yl e f = rw (← e, ← f, turned_zero x xl, turned_zero y yl) (halves_zero x y)
+pub top_byte_of : (v w : ℕ) → w / 16777216 ≡ v % 256 → w / 16777216 % 256 ≡ v % 256
+top_byte_of v w e = let l = byte_lt v in ap (λ (x : ℕ). x % 256) e ∙ mod-eq_of_lt l
 
 word_cons : (x y z u : ℕ) (t : List ℕ) (i : ℕ) → word (x ∷ y ∷ z ∷ u ∷ t) (suc i) ≡ word t i
 unfolding word
