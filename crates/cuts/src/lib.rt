@@ -1,7 +1,7 @@
 // Scans of one process's records for a failure line.
 #![tactic(auto)]
 
-ghost use Rattle.std.specs.Prelude.{◌≡◌, ◌+◌, ◌≤◌, ◌<◌, eqb, [], ◌∷◌, length};
+ghost use Rattle.std.specs.Prelude.{◌≡◌, ◌+◌, ◌≤◌, ◌<◌, true, eqb, [], ◌∷◌, length};
 ghost use Rattle.rules.specs.Records.{sends as sends_of};
 ghost use Rattle.rules.specs.Lines.{upto, is_checkpoint};
 ghost use Rattle.rules.specs.FailureLine.{last_saved};
@@ -37,7 +37,8 @@ fn sent(event: Event) -> usize
 // Whether position i is 0 or a checkpoint's.
 fn saved(records: &Records, i: usize) -> bool
     requires { i ≤ records.now.count }
-    ensures { result ≡ eqb (last_saved (upto i (held records.now))) i }
+    ensures saved { result ≡ eqb (last_saved (upto i (held records.now))) i }
+    ensures start { i ≡ 0 → result ≡ true }
 {
     i == 0 || is_checkpoint(records.get(i - 1))
 }

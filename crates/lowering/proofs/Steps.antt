@@ -27,7 +27,7 @@ use Rattle.cuts.proofs.Parts.{position_at, sends_at, positions_set, counts_set}
 use Rattle.tops.specs.Tops.{Counted}
 use Rattle.lowering.specs.Lowering.{Lowered, always_orphan, Pruned, Settled}
 use Rattle.lowering.proofs.Cuts.{total, lowered_refl, lowered_trans, part_same, part_other, set_counted, set_total, Fair, lower_fair, late_fair}
-use Rattle.lowering.proofs.Lowered.{held_length}
+use Rattle.cuts.proofs.Scanned.{held_length}
 
 -- ---- one process taken back
 
