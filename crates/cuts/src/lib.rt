@@ -8,7 +8,7 @@ ghost use Rattle.rules.specs.FailureLine.{last_saved};
 ghost use Rattle.events.specs.Events.{meant, held};
 ghost use Rattle.cuts.specs.Parts.{counts};
 ghost use Rattle.cuts.specs.Tests.{late, note_index, unsent};
-ghost use Rattle.cuts.specs.Notes.{noted, place_of, Inside, struck};
+ghost use Rattle.cuts.specs.Notes.{note_of, noted, place_of, Inside, struck};
 
 use events::{Event, Records, Test};
 
@@ -109,21 +109,27 @@ impl<'a> Test for Unsent<'a> {
     }
 }
 
-// Notes from an index on where the sends go; how many there are.
+// What is noted at the place of the next send once a record is read: its destination, 16 if it is no send.
+fn note_of(event: Event) -> u8
+    ensures { result ≡ note_of (meant event) }
+{
+    match event {
+        Event::Sent { to, .. } => (to % 32) as u8,
+        _ => 16,
+    }
+}
+
+// Notes from an index on where the sends go; how many there are. Every record is written at the next send's place: no branch has to foretell
+// its kind.
 pub fn note(records: &Records, from: usize, to: &mut [u8]) -> usize
     requires { from + records.now.count < length to.old }
     ensures { (to.new ≡ noted from (held records.now) to.old) × (result ≡ sends_of (held records.now)) }
 {
     let mut k = 0;
     for i in 0..records.count {
-        let next = from + k + 1;
-        match records.get(i) {
-            Event::Sent { to: q, .. } => {
-                to[next] = (q % 32) as u8;
-                k += 1;
-            }
-            _ => to[next] = 16,
-        }
+        let event = records.get(i);
+        to[from + k + 1] = note_of(event);
+        k += sent(event);
     }
     k
 }
