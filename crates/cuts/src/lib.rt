@@ -123,7 +123,7 @@ fn note_of(event: Event) -> u8
 // its kind.
 pub fn note(records: &Records, from: usize, to: &mut [u8]) -> usize
     requires { from + records.now.count < length to.old }
-    ensures { (to.new ≡ noted from (held records.now) to.old) × (result ≡ sends_of (held records.now)) }
+    ensures { (to.new ≡ noted from (held records.now) to.old) × (result ≡ sends_of (held records.now)) × (result ≤ records.now.count) }
 {
     let mut k = 0;
     for i in 0..records.count {
