@@ -3,11 +3,12 @@ use mathlib.Core.Path.{◌≡◌, refl, sym, ap, ◌∙◌, subst}
 use mathlib.Core.Logic.{◌≢◌}
 use mathlib.Core.Bool.{Bool, true, false, not, cond, ◌||◌}
 use mathlib.Core.List.{[], ◌∷◌}
-use Prim.Native.Nat.{ℕ, zero, suc, ◌+◌, ◌-◌, ◌*◌, ◌≤◌, ◌<◌, zero-le}
+use Prim.Native.Nat.{ℕ, zero, suc, ◌+◌, ◌-◌, ◌*◌, ◌≤◌, ◌<◌}
 use native.Mathlib.Omega.{arith}
-use native.Mathlib.Decide.{dec_lt}
 use lib.Dec.{ltb, eqb}
-use borrow.Author.Tests.{ltb-true, ltb-false, le-ltb, eqb-true, eq-eqb, ne_eqb, not-false}
+use borrow.Author.Tests.{ltb-true, ltb-false, eqb-true, eq-eqb, ne_eqb, not-false}
+use lib.ListN.{length}
+use Rattle.xdr.specs.Words.{word}
 use Rattle.rules.specs.Records.{Event, basic, forced, sent, received, History, sends}
 use Rattle.rules.specs.Table.{width, event_at, records_at}
 use Rattle.rules.specs.Lines.{upto, is_checkpoint}
@@ -16,8 +17,14 @@ use Rattle.basics.proofs.Booleans.{Test, passes, fails, test, or_false, clash}
 use Rattle.records.proofs.Cuts.{last_le}
 use Rattle.tables.proofs.WellLaid.{records_length}
 use Rattle.tables.proofs.Scans.{records_upto}
+use Rattle.events.specs.declared.Records.{Records}
+use Rattle.events.specs.Events.{held}
 
--- its sends and those before it
+-- as many as there are
+pub held_length : (r : Records) → length (held r) ≡ r.count
+held_length r = records_length (word r.bytes.now) r.at r.count
+
+-- a record's sends and those before it
 sends_one : (e : Event) (h : History) → sends (e ∷ h) ≡ sends (e ∷ []) + sends h
 sends_one (basic m) h = omega arith
 sends_one (forced m) h = omega arith
@@ -35,9 +42,6 @@ module _ (w : ℕ → ℕ) (at : ℕ) where
   last_at : (i : ℕ) → last_saved (records_at w at i) ≤ i
   last_at i = subst (λ (x : ℕ). last_saved (records_at w at i) ≤ x) (records_length w at i) (last_le (records_at w at i))
 
-  pub saved_zero : {i : ℕ} → i ≡ 0 → true ≡ eqb (last_saved (records_at w at i)) i
-  saved_zero e = rw e
-
   -- the last of some records is a checkpoint, or the latest saved position is that of the records before it
   last_next : (j : ℕ) → last_saved (records_at w at (suc j)) ≡ cond (is_checkpoint (record_here j)) (suc j) (last_saved (records_at w at j))
   last_next j = ap (λ (l : ℕ). cond (is_checkpoint (record_here j)) (suc l) (last_saved (records_at w at j))) (records_length w at j)
@@ -52,26 +56,16 @@ module _ (w : ℕ → ℕ) (at : ℕ) where
       go true l = sym (eq-eqb (suc j) (suc j) refl)
       go false l = sym (ne_eqb (last_saved (records_at w at j)) (suc j) (omega arith))
 
-  module _ (c r i : ℕ) (le : i ≤ c) {s : Bool} (held : s ≡ eqb (last_saved (upto i (records_at w at c))) i) where
+  module _ (c r i : ℕ) (le : i ≤ c) {s : Bool} (found : s ≡ eqb (last_saved (upto i (records_at w at c))) i) where
     is : s ≡ eqb (last_saved (records_at w at i)) i
-    is = held ∙ ap (λ h. eqb (last_saved h) i) (records_upto w at i c le)
+    is = found ∙ ap (λ h. eqb (last_saved h) i) (records_upto w at i c le)
 
-    pub back_more : (ltb r i || not s) ≡ true → 0 < i
-    back_more t = go (dec_lt 0 i)
-      where
-        go : Dec (0 < i) → 0 < i
-        go (yes l) = l
-        go (no l) =
-            let z : i ≡ 0 = omega arith in
-            let u : s ≡ true = is ∙ sym (saved_zero z) in
-            clash (ltb r i || not s) t (rw (u, z, le-ltb r 0 zero-le))
-
-    pub back_next : (ltb r i || not s) ≡ true → (i ≤ r → last_saved (records_at w at i) ≡ last_saved (records_at w at r))
+    pub back_next : 0 < i → (ltb r i || not s) ≡ true → (i ≤ r → last_saved (records_at w at i) ≡ last_saved (records_at w at r))
         → {j : ℕ} → j ≡ i - 1 → j ≤ r → last_saved (records_at w at j) ≡ last_saved (records_at w at r)
-    back_next t last {j} e below = go (test (ltb r i)) (test s)
+    back_next m t last {j} e below = go (test (ltb r i)) (test s)
       where
         up : i ≡ suc j
-        up = let m = back_more t in omega arith
+        up = omega arith
 
         -- the record at i is no checkpoint
         skipped : s ≡ false → last_saved (records_at w at j) ≡ last_saved (records_at w at i)

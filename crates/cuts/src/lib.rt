@@ -1,14 +1,14 @@
 // Scans of one process's records for a failure line.
 #![tactic(auto)]
 
-ghost use Rattle.std.specs.Prelude.{◌≡◌, ◌+◌, ◌≤◌, ◌<◌, eqb, [], ◌∷◌, length};
+ghost use Rattle.std.specs.Prelude.{◌≡◌, ◌+◌, ◌≤◌, ◌<◌, true, eqb, [], ◌∷◌, length};
 ghost use Rattle.rules.specs.Records.{sends as sends_of};
 ghost use Rattle.rules.specs.Lines.{upto, is_checkpoint};
 ghost use Rattle.rules.specs.FailureLine.{last_saved};
 ghost use Rattle.events.specs.Events.{meant, held};
 ghost use Rattle.cuts.specs.Parts.{counts};
 ghost use Rattle.cuts.specs.Tests.{late, note_index, unsent};
-ghost use Rattle.cuts.specs.Notes.{noted, place_of, Inside, struck};
+ghost use Rattle.cuts.specs.Notes.{note_of, noted, place_of, Inside, struck};
 
 use events::{Event, Records, Test};
 
@@ -37,7 +37,8 @@ fn sent(event: Event) -> usize
 // Whether position i is 0 or a checkpoint's.
 fn saved(records: &Records, i: usize) -> bool
     requires { i ≤ records.now.count }
-    ensures { result ≡ eqb (last_saved (upto i (held records.now))) i }
+    ensures saved { result ≡ eqb (last_saved (upto i (held records.now))) i }
+    ensures start { i ≡ 0 → result ≡ true }
 {
     i == 0 || is_checkpoint(records.get(i - 1))
 }
@@ -108,20 +109,27 @@ impl<'a> Test for Unsent<'a> {
     }
 }
 
-// Notes from an index on where the sends go; how many there are. What is noted of a record is one value, and what is counted another, so
-// that no kind has a branch of its own.
+// What is noted at the place of the next send once a record is read: its destination, 16 if it is no send.
+fn note_of(event: Event) -> u8
+    ensures { result ≡ note_of (meant event) }
+{
+    match event {
+        Event::Sent { to, .. } => (to % 32) as u8,
+        _ => 16,
+    }
+}
+
+// Notes from an index on where the sends go; how many there are. Every record is written at the next send's place: no branch has to foretell
+// its kind.
 pub fn note(records: &Records, from: usize, to: &mut [u8]) -> usize
     requires { from + records.now.count < length to.old }
     ensures { (to.new ≡ noted from (held records.now) to.old) × (result ≡ sends_of (held records.now)) × (result ≤ records.now.count) }
 {
     let mut k = 0;
     for i in 0..records.count {
-        let (note, more) = match records.get(i) {
-            Event::Sent { to: q, .. } => ((q % 32) as u8, 1),
-            _ => (16, 0),
-        };
-        to[from + k + 1] = note;
-        k += more;
+        let event = records.get(i);
+        to[from + k + 1] = note_of(event);
+        k += sent(event);
     }
     k
 }

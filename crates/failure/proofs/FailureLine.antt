@@ -67,10 +67,6 @@ module _ (f : ℕ → Bool) (p : ℕ) (lt : p < 16) where
 
 -- ---- the answer
 
-pub then_two : (a : List ℕ) (n x y : ℕ) {u v w : List ℕ} → u ≡ a → v ≡ put_word u n x → w ≡ put_word v (n + 1) y
-    → w ≡ put_word (put_word a n x) (n + 1) y
-then_two a n x y e f g = rw (g, f, e)
-
 goes_same : (mask : ℕ) (s : State) (P Q : List ℕ) (n : ℕ) → ((p : ℕ) → p < n → get_or P p 0 ≡ get_or Q p 0)
     → mask_below (goes_back_at mask s P) n ≡ mask_below (goes_back_at mask s Q) n
 goes_same mask s P Q zero e = refl

@@ -42,9 +42,6 @@ sender s p q k e = go (dec_lt q (length s))
 
 -- ---- lowered cuts
 
-pub lowered_refl : (s : State) (P : List ℕ) → Lowered s P P
-lowered_refl s P = record { down = λ p lt. le_refl (get_or P p 0); over = λ mask O. O }
-
 pub lowered_trans : (s : State) (P Q R : List ℕ) → Lowered s P Q → Lowered s Q R → Lowered s P R
 lowered_trans s P Q R a b = record { down = λ p lt. le_trans (b.down p lt) (a.down p lt); over = λ mask O. b.over mask (a.over mask O) }
 

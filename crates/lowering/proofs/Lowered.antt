@@ -5,7 +5,6 @@ use mathlib.Core.Bool.{Bool, true, false}
 use Prim.Native.Nat.{ℕ, ◌≤◌}
 use native.Mathlib.Omega.{arith}
 use lib.ListN.{length}
-use Rattle.xdr.specs.Words.{word}
 use Rattle.rules.specs.Records.{Event, sends}
 use Rattle.rules.specs.Lines.{upto}
 use Rattle.rules.specs.FailureLine.{any, before, last_saved, lowered}
@@ -13,13 +12,9 @@ use Rattle.basics.proofs.Older.{older_length}
 use Rattle.basics.proofs.Booleans.{Test, passes, fails, test}
 use Rattle.records.proofs.NumberedLines.{upto_older}
 use Rattle.records.proofs.Cuts.{upto_exact, upto_mono, before_older, before_less, before_all, last_le}
-use Rattle.tables.proofs.WellLaid.{records_length}
+use Rattle.cuts.proofs.Scanned.{held_length}
 use Rattle.events.specs.declared.Records.{Records}
 use Rattle.events.specs.Events.{held}
-
--- as many as there are
-pub held_length : (r : Records) → length (held r) ≡ r.count
-held_length r = records_length (word r.bytes.now) r.at r.count
 
 module _ (o : Event → Bool) (r g : Records) (t : ℕ) (le : t ≤ r.count) (is : held g ≡ upto t (held r)) {x : ℕ} (e : x ≡ length (before o (held g))) where
   pub lower_inside : x ≤ g.count

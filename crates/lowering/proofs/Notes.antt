@@ -43,7 +43,7 @@ noted_at E q to n p few room blank h legal short k pos le = go (test (leb k (sen
     go (fails x) = rw x (noted_blank (q * E) to blank h (omega arith) k (leb-false k (sends h) x) (omega arith))
 
 -- one process more
-pub noted_next : (s : State) (n E p : ℕ) (to : List ℕ) → n ≤ 16 → p * E + E < length to → Noted s E to p → Blank to (p * E)
+noted_next : (s : State) (n E p : ℕ) (to : List ℕ) → n ≤ 16 → p * E + E < length to → Noted s E to p → Blank to (p * E)
     → Legal n E p (history s p) → length (history s p) ≤ E → {u : List ℕ} → u ≡ noted (p * E) (history s p) to
     → (length u ≡ length to) × Noted s E u (p + 1) × Blank u ((p + 1) * E)
 noted_next s n E p to few room N B legal short {u} e = rw e (
@@ -73,30 +73,7 @@ before_same o o' P f (e ∷ h) r =
     let a = f e h r.0 in
     (rw (a, b.0), rw (a, b.0, b.1))
 
-pub unsent_always : (s : State) (n E p : ℕ) (to : List ℕ) → p < 16 → n * E < length to → Noted s E to n → (h : History) → Legal n E p h
-    → before (unsent E p to) h ≡ before (always_orphan s p) h
-unsent_always s n E p to lp room N h legal = (before_same (unsent E p to) (always_orphan s p) (Law n E p) same h legal).1
-  where
-    same : (e : Event) (g : History) → Law n E p e g → unsent E p to e ≡ always_orphan s p e
-    same (basic m) g a = refl
-    same (forced m) g a = refl
-    same (sent d) g a = refl
-    same (received q k c) g (lq, ne, pos, le, most) =
-        let m = mul-le-mul_right {m = q + 1} {n = n} E (omega arith) in
-        let i : note_index E (length to) q k ≡ q * E + k = rw (lt-ltb (q * E + k) (length to) (omega arith)) in
-        let z : eqb (get_or to (note_index E (length to) q k) 0) p ≡ has_send f p k =
-        rw (i, N q k lq pos le, lt-ltb 0 k pos) (go (leb k (sends f)) (destination f k))
-        in
-        ap not z
-      where
-        f : History
-        f = history s q
-
-        go : (b : Bool) (d : ℕ) → eqb (cond b d 16) p ≡ (b && eqb d p)
-        go true d = refl
-        go false d = ne_eqb 16 p (λ z. absurd (omega arith))
-
-pub always_same : (s : State) (n E p : ℕ) (to : List ℕ) → p < 16 → n * E < length to → Noted s E to n → (h : History) → Legal n E p h → (x : ℕ)
+always_same : (s : State) (n E p : ℕ) (to : List ℕ) → p < 16 → n * E < length to → Noted s E to n → (h : History) → Legal n E p h → (x : ℕ)
     → lowered (unsent E p to) h x ≡ lowered (always_orphan s p) h x
 always_same s n E p to lp room N h legal x =
     let b = before_same (unsent E p to) (always_orphan s p) (Law n E p) same (upto x h) (each_older (Law n E p) (upto_is_older x h) legal) in

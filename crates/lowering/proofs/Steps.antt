@@ -25,9 +25,9 @@ use Rattle.cuts.specs.Parts.{positions, counts, part_at}
 use Rattle.cuts.specs.Tests.{late}
 use Rattle.cuts.proofs.Parts.{position_at, sends_at, positions_set, counts_set}
 use Rattle.tops.specs.Tops.{Counted}
-use Rattle.lowering.specs.Lowering.{Lowered, always_orphan, Pruned, Settled}
-use Rattle.lowering.proofs.Cuts.{total, lowered_refl, lowered_trans, part_same, part_other, set_counted, set_total, Fair, lower_fair, late_fair}
-use Rattle.lowering.proofs.Lowered.{held_length}
+use Rattle.lowering.specs.Lowering.{Lowered, always_orphan, Pruned}
+use Rattle.lowering.proofs.Cuts.{total, lowered_trans, part_same, part_other, set_counted, set_total, Fair, lower_fair, late_fair}
+use Rattle.cuts.proofs.Scanned.{held_length}
 
 -- ---- one process taken back
 
@@ -115,23 +115,7 @@ pub record Quiet (s : State) (P₀ P S : List ℕ) (n p stayed : ℕ) : Type 0 w
   pub turn : 0 < n → p < n
   pub none : (q : ℕ) → q < n → (q < p → p ≤ q + stayed) → (p ≤ q → p + n ≤ q + stayed) → any (late S) (part s P q) ≡ false
 
-pub quiet_start : (s : State) (P S : List ℕ) (n : ℕ) → Counted s P S → Quiet s P P S n 0 0
-quiet_start s P S n C =
-    record {
-      counted = C;
-      lowers = lowered_refl s P;
-      turn = λ l. l;
-      none = λ q lt a b. absurd (let x = b (omega arith) in omega arith);
-    }
-
 module _ {s : State} {P₀ P S : List ℕ} {n p stayed : ℕ} (Q : Quiet s P₀ P S n p stayed) where
-  pub quiet_done : n ≤ stayed → Settled s P₀ P S n
-  quiet_done le = (
-    Q.counted,
-    Q.lowers,
-    λ q lt. let l = Q.turn (omega arith) in Q.none q lt (λ a. omega arith) (λ a. omega arith),
-  )
-
   module _ (lt : stayed < n) {P' S' : List ℕ} {moves : Bool} (u : Step s P S P' S' n p (late S) moves) {k : ℕ}
       (e : k ≡ cond moves 0 (stayed + 1)) where
     pub quiet_next : {j : ℕ} → j ≡ cond (ltb (p + 1) n) (p + 1) 0 → Quiet s P₀ P' S' n j k

@@ -7,18 +7,17 @@ use Prim.Native.Nat.{ℕ, ◌+◌, ◌<◌}
 use native.Mathlib.Decide.{ℕ_discrete}
 use lib.ListN.{length, get_or, set}
 use lib.Seq.{get_or-set_same, get_or-set_other}
-use Rattle.xdr.specs.Words.{word}
 use Rattle.rules.specs.Records.{History, State, history, sends}
 use Rattle.rules.specs.Lines.{upto, failed}
 use Rattle.rules.specs.FailureLine.{last_saved, top}
 use Rattle.basics.proofs.Older.{same}
 use Rattle.records.proofs.NumberedLines.{upto_older}
 use Rattle.records.proofs.Cuts.{top_le, top_permitted, top_latest}
-use Rattle.tables.proofs.WellLaid.{records_length}
 use Rattle.events.specs.declared.Records.{Records}
 use Rattle.events.specs.Events.{held}
 use Rattle.cuts.specs.declared.Part.{Part}
 use Rattle.cuts.specs.Parts.{positions, counts}
+use Rattle.cuts.proofs.Scanned.{held_length}
 use Rattle.cuts.proofs.Parts.{positions_length, counts_length, positions_set, counts_set}
 use Rattle.tops.specs.Tops.{Counted, Over}
 
@@ -26,7 +25,7 @@ use Rattle.tops.specs.Tops.{Counted, Over}
 
 module _ (h : History) (r : Records) (is : held r ≡ h) where
   pub counted : r.count ≡ length h
-  counted = sym (records_length (word r.bytes.now) r.at r.count) ∙ ap length is
+  counted = sym (held_length r) ∙ ap length is
 
   pub top_down : {down : Bool} → down ≡ true → {x k : ℕ} → x ≡ last_saved (upto r.count (held r)) → k ≡ sends (upto x (held r))
       → (x ≡ top down h) × (k ≡ sends (upto x h))

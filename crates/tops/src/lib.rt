@@ -36,7 +36,8 @@ fn top(table: &Table, p: usize, down: bool) -> Part
     }
 }
 
-// Every process at its latest permitted position; the first n of the sixteen count.
+// Every process at its latest permitted position. The memory is fixed: there are sixteen parts, of which the first n count. The table stays
+// beside them: a struct of both would have each function say that the cut it returns is of the same table.
 pub fn tops(table: &Table, mask: u32) -> [Part; 16]
     ensures { Counted (state_of table.now) (positions result) (counts result) × Over mask (state_of table.now) (positions result) }
 {

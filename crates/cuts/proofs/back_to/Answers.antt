@@ -1,34 +1,17 @@
-use Rattle.std.proofs.Common.{arith, [], ◌∷◌, refl, sym, ap, ◌∙◌}
+use Rattle.std.proofs.Common.{arith, rules, [], ◌∷◌, refl, sym, ap, ◌∙◌}
 use Rattle.xdr.specs.Words.{word}
 use Rattle.rules.specs.Records.{sends}
 use Rattle.rules.specs.FailureLine.{last_saved}
 use Rattle.tables.proofs.Scans.{records_upto, sends_at_most}
-use Rattle.cuts.proofs.Scanned.{back_more, back_next, back_done, sends_back}
+use Rattle.cuts.proofs.Scanned.{back_next, back_done, sends_back}
 use Rattle.cuts.proofs.back_to.Goals as goal
-
-pub overflow_sub-i : goal.overflow_sub-i
-overflow_sub-i c = let r = c.args.records.now in
-    let m = back_more (word r.bytes.now) r.at r.count c.args.r c.loop-i.i c.loop-i.invariant.2 c.saved.ensures c.loop-i-test.true in
-    omega arith
-
-pub overflow_sub-sends : goal.overflow_sub-sends
-overflow_sub-sends c = let r = c.args.records.now in
-    let s = c.loop-i in
-    let m = back_more (word r.bytes.now) r.at r.count c.args.r s.i s.invariant.2 c.saved.ensures c.loop-i-test.true in
-    (sends_back (word r.bytes.now) r.at m refl s.invariant.1 (c.sent-sends.ensures ∙ ap (λ e. sends (e ∷ [])) c.get.ensures.event)).0
-
-pub loop-i-smaller : goal.loop-i-smaller
-loop-i-smaller c = let r = c.args.records.now in
-    let m = back_more (word r.bytes.now) r.at r.count c.args.r c.loop-i.i c.loop-i.invariant.2 c.saved.ensures c.loop-i-test.true in
-    omega arith
 
 pub loop-i-preserved : goal.loop-i-preserved
 loop-i-preserved c = let r = c.args.records.now in
     let w = word r.bytes.now in
-    let s = c.loop-i in
-    let m = back_more w r.at r.count c.args.r s.i s.invariant.2 c.saved.ensures c.loop-i-test.true in (
-      back_next w r.at r.count c.args.r s.i s.invariant.2 c.saved.ensures c.loop-i-test.true s.invariant.0 refl,
-      (sends_back w r.at m refl s.invariant.1 (c.sent-sends.ensures ∙ ap (λ e. sends (e ∷ [])) c.get.ensures.event)).1,
+    let s = c.loop-i in (
+      back_next w r.at r.count c.args.r s.i s.invariant.2 c.saved.ensures.saved (search rules) c.loop-i-test.true s.invariant.0 refl,
+      (sends_back w r.at (search rules) refl s.invariant.1 (c.sent-sends.ensures ∙ ap (λ e. sends (e ∷ [])) c.get.ensures.event)).1,
       omega arith,
     )
 
@@ -40,7 +23,7 @@ pub returns : goal.returns
 returns c = let r = c.args.records.now in
     let w = word r.bytes.now in
     let s = c.loop-i in (
-      back_done w r.at r.count c.args.r s.i s.invariant.2 c.saved.ensures c.loop-i-test.false s.invariant.0
+      back_done w r.at r.count c.args.r s.i s.invariant.2 c.saved.ensures.saved c.loop-i-test.false s.invariant.0
           ∙ ap last_saved (sym (records_upto w r.at c.args.r r.count c.requires.0)),
       s.invariant.1 ∙ ap sends (sym (records_upto w r.at s.i r.count s.invariant.2)),
     )

@@ -1,7 +1,7 @@
 use Rattle.std.proofs.Common.{arith, refl, ap, length, ◌+◌, ◌∙◌}
 use native.Mathlib.Nat.{mul-le-mul_right}
 use Rattle.layout.proofs.Sections.{section}
-use Rattle.lowering.proofs.Lowered.{held_length}
+use Rattle.cuts.proofs.Scanned.{held_length}
 use Rattle.lowering.proofs.Notes.{note_turn}
 use Rattle.lowering.proofs.note_all.Goals as goal
 
