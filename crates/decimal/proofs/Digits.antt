@@ -7,9 +7,8 @@ use native.Mathlib.Nat.{pow-suc, pow-succ', div-div-eq-div-mul, div-lt_iff_lt-mu
 use borrow.Author.Tests.{lt-ltb, le-ltb}
 use Rattle.rules.specs.Text.{decimal, last_digits}
 use Rattle.decimal.specs.Output.{Page, Writes, Digits}
-use lib.ListN.{length}
 use Rattle.decimal.proofs.Powers.{power_pos}
-use Rattle.decimal.proofs.Texts.{Writing, writing_starts, writing_on, writing_room, writing_ends}
+use Rattle.decimal.proofs.Texts.{writes_as, Writing, writing_starts, writing_on, writing_ends}
 
 -- ---- what the digits spell
 
@@ -49,32 +48,25 @@ spelled_next (suc i) v pos =
     let m : suc i - 1 ≡ i = omega arith in
     rw m refl
 
-spelled_length : (i v : ℕ) → length (spelled i v) ≡ i
-spelled_length zero v = refl
-spelled_length (suc i) v = ap suc (spelled_length i v)
-
 -- ---- a loop that writes digits
 
--- v is written, but for its last i digits
-abbrev pub Spelling : Page → ℕ → Page → ℕ → Type 0
-Spelling before v out i = Writing before (decimal v) out (spelled i v)
+-- v, of k digits, is written, but for its last i digits
+abbrev pub Spelling : Page → ℕ → ℕ → Page → ℕ → Type 0
+Spelling before v k out i = (i ≤ k) × Writing before (decimal v) (k - i) out (spelled i v)
 
-pub spelling_starts : (before : Page) (v k : ℕ) → Digits v k → Spelling before v before k
-spelling_starts before v k d = writing_starts before _ _ (sym (decimal_spelled v k d))
+pub spelling_starts : (before : Page) (v k : ℕ) → Digits v k → Spelling before v k before k
+spelling_starts before v k d = (omega arith, writing_starts before (sym (decimal_spelled v k d)))
 
-pub spelling_room : (before out : Page) (v k i : ℕ) → Digits v k → Spelling before v out i → 10 ≤ length before.rest → 0 < i → 1 ≤ length out.rest
-spelling_room before out v k i d h room pos =
-    omega
-    (arith, writing_room h, ap length (decimal_spelled v k d), spelled_length k v, spelled_length i v, d.1)
+pub spelling_on : (before out out₁ : Page) (v k i d : ℕ) → Spelling before v k out i → 0 < i → d ≡ 48 + v / 10 ^ (i - 1) % 10 → Writes out (d ∷ []) 1 out₁
+    → Spelling before v k out₁ (i - 1)
+spelling_on before out out₁ v k i d h pos e w = (
+  omega (arith, h.0),
+  writing_on (omega (arith, h.0, pos))
+      (subst (λ (l : List ℕ). Writing before (decimal v) (k - i) out l) (spelled_next i v pos ∙ ap (λ (x : ℕ). x ∷ spelled (i - 1) v) (sym e)) h.1) w,
+)
 
-pub spelling_on : (before out out₁ : Page) (v i d : ℕ) → Spelling before v out i → 0 < i → d ≡ 48 + v / 10 ^ (i - 1) % 10 → Writes out (d ∷ []) 1 out₁
-    → Spelling before v out₁ (i - 1)
-spelling_on before out out₁ v i d h pos e w =
-    writing_on
-    (subst (λ (l : List ℕ). Writing before (decimal v) out l) (spelled_next i v pos ∙ ap (λ (x : ℕ). x ∷ spelled (i - 1) v) (sym e)) h) w
-
-pub spelling_ends : (before out : Page) (v k i : ℕ) → Digits v k → Spelling before v out i → i ≤ 0 → Writes before (decimal v) 10 out
-spelling_ends before out v k zero d h le = writing_ends h (omega (arith, ap length (decimal_spelled v k d), spelled_length k v, d.1))
+pub spelling_ends : (before out : Page) (v k i : ℕ) → Digits v k → Spelling before v k out i → i ≤ 0 → Writes before (decimal v) 10 out
+spelling_ends before out v k zero d h le = writes_as refl (omega (arith, d.1)) (writing_ends h.1)
 spelling_ends before out v k (suc i) d h le = absurd (not-suc-le-zero le)
 
 -- ---- a loop that counts digits

@@ -3,6 +3,7 @@ use mathlib.Core.Path.{◌≡◌, refl, ◌∙◌, sym, ap}
 use mathlib.Core.List.{List, [], ◌++◌, append-nil, append_assoc}
 use Prim.Native.Nat.{ℕ, ◌+◌, ◌≤◌}
 use native.Mathlib.Omega.{arith}
+use native.Mathlib.Nat.{le_refl}
 use lib.ListN.{length, drop, length-append}
 use lib.Seq.{drop-drop}
 use Rattle.decimal.specs.Output.{Page, Writes}
@@ -11,6 +12,10 @@ use Rattle.decimal.specs.Output.{Page, Writes}
 
 pub writes_none : (out : Page) → Writes out [] 0 out
 writes_none out = record { room = refl; text = sym (append-nil out.written); rest = refl; most = omega arith }
+
+-- the bytes that are left after it
+pub writes_room : {out out₁ : Page} {s : List ℕ} {m : ℕ} → Writes out s m out₁ → length out.rest ≤ length out₁.rest + m
+writes_room {out} {out₁} {s} h = omega (arith, h.room, h.most, ap length h.text, length-append out.written s)
 
 -- the same text, said otherwise, and with more bytes at most
 pub writes_as : {out out₁ : Page} {s t : List ℕ} {m n : ℕ} → s ≡ t → m ≤ n → Writes out s m out₁ → Writes out t n out₁
@@ -21,10 +26,6 @@ writes_as {out} {out₁} {s} {t} {m} {n} e le h =
       rest = h.rest ∙ ap (λ (l : List ℕ). drop (length l) out.rest) e;
       most = omega (arith, h.most, ap length e);
     }
-
--- a text has as many bytes as it has
-pub writes_exact : {out out₁ : Page} {s : List ℕ} {n : ℕ} → Writes out s n out₁ → Writes out s (length s) out₁
-writes_exact h = record { room = h.room; text = h.text; rest = h.rest; most = omega arith }
 
 -- one text after another
 pub writes_both : {out out₁ out₂ : Page} {s t : List ℕ} {m n k : ℕ} → m + n ≤ k → Writes out s m out₁ → Writes out₁ t n out₂ → Writes out (s ++ t) k out₂
@@ -42,25 +43,17 @@ writes_both {out} {out₁} {out₂} {s} {t} {m} {n} {k} le g h =
 
 -- ---- a loop that writes a text piece by piece
 
--- the text s is written, but for its end `left`
-abbrev pub Writing : Page → List ℕ → Page → List ℕ → Type 0
-Writing before s out left = (p : List ℕ) × (p ++ left ≡ s) × Writes before p (length p) out
+-- the text s is written, but for its end `left`; what is written has m bytes at most
+abbrev pub Writing : Page → List ℕ → ℕ → Page → List ℕ → Type 0
+Writing before s m out left = (p : List ℕ) × (p ++ left ≡ s) × Writes before p m out
 
-pub writing_starts : (before : Page) (s left : List ℕ) → left ≡ s → Writing before s before left
-writing_starts before s left e = ([], e, writes_none before)
+pub writing_starts : (before : Page) {s left : List ℕ} {m : ℕ} → left ≡ s → Writing before s m before left
+writing_starts before e = ([], e, writes_as refl (omega arith) (writes_none before))
 
 -- the next piece, t
-pub writing_on : {before out out₁ : Page} {s t left : List ℕ} {n : ℕ} → Writing before s out (t ++ left) → Writes out t n out₁ → Writing before s out₁ left
-writing_on {before} {out} {out₁} {s} {t} {left} {n} h k =
-    (h.0 ++ t, append_assoc h.0 t left ∙ h.1, writes_both {n = length t} (omega (arith, length-append h.0 t)) h.2 (writes_exact k))
+pub writing_on : {before out out₁ : Page} {s t left : List ℕ} {m n k : ℕ} → m + n ≤ k → Writing before s m out (t ++ left) → Writes out t n out₁
+    → Writing before s k out₁ left
+writing_on {t = t} {left = left} le h w = (h.0 ++ t, append_assoc h.0 t left ∙ h.1, writes_both le h.2 w)
 
--- what is left has room
-pub writing_room : {before out : Page} {s left : List ℕ} → Writing before s out left → length out.rest + length s ≡ length before.rest + length left
-writing_room {before} {out} {s} {left} h =
-    omega
-    (arith, h.2.room, ap length h.2.text, length-append before.written h.0, ap length h.1, length-append h.0 left)
-
-pub writing_ends : {before out : Page} {s : List ℕ} {n : ℕ} → Writing before s out [] → length s ≤ n → Writes before s n out
-writing_ends {before} {out} {s} {n} h le =
-    let all : h.0 ≡ s = sym (append-nil h.0) ∙ h.1 in
-    writes_as all (omega (arith, ap length all, le)) h.2
+pub writing_ends : {before out : Page} {s : List ℕ} {m : ℕ} → Writing before s m out [] → Writes before s m out
+writing_ends {m = m} h = writes_as (sym (append-nil h.0) ∙ h.1) (le_refl m) h.2

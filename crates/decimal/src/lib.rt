@@ -45,7 +45,8 @@ pub fn put(out: &mut Output, v: u32)
     requires { 10 ≤ length out.old.rest }
     ensures { Writes out.old (decimal v) 10 out.new }
 {
-    for i in (0..count(v)).rev() {
+    let k = count(v);
+    for i in (0..k).rev() {
         out.push(digit(v, i));
     }
 }
