@@ -25,19 +25,10 @@ pub fn run(
     };
     match call {
         Call::Fresh { .. } => Err(Refused::Line),
-        Call::Checkpoint { p } => told(
-            engine::ckpt_checkpoint(table, &mut area[..4], p),
-            1,
-        ),
+        Call::Checkpoint { p } => told(engine::ckpt_checkpoint(table, &mut area[..4], p), 1),
         Call::Send { p, q } => told(engine::ckpt_send(table, &mut area[..8], p, q), 2),
-        Call::Receipt { p, q, k } => told(
-            engine::ckpt_receipt(table, &mut area[..16], p, q, k),
-            4,
-        ),
-        Call::Line { number } => told(
-            engine::ckpt_line(table, &mut area[..4 * n], number),
-            n,
-        ),
+        Call::Receipt { p, q, k } => told(engine::ckpt_receipt(table, &mut area[..16], p, q, k), 4),
+        Call::Line { number } => told(engine::ckpt_line(table, &mut area[..4 * n], number), n),
         Call::Failed { mask } => told(
             engine::ckpt_failed(table, &mut area[..4 * n + 8], mask),
             n + 2,

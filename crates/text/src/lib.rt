@@ -14,6 +14,7 @@ use decimal::Output;
 use session::Session;
 
 // A session that has read nothing.
+#[tactic(auto, using(crate::proofs::Sessions::starts))]
 pub fn start() -> Session
     ensures { (result.line ≡ []) × (result.program ≡ waiting) × ((x : List ℕ) → owed_by result x ≡ text_output x) }
 {
