@@ -1,9 +1,10 @@
 -- What the functions that run a line's call and write its answer promise.
-use Rattle.std.specs.Prelude.{◌≡◌, cond, List, [], ◌∷◌, ◌++◌, ℕ, ◌+◌, ◌*◌, ◌≤◌, ltb, length, take}
+use Rattle.std.specs.Prelude.{◌≡◌, cond, List, [], ◌∷◌, ◌++◌, ℕ, ◌+◌, ◌*◌, ◌≤◌, ltb, length, take, Result, Ok, Err}
 use Rattle.xdr.specs.Words.{word, words as words_of}
 use Rattle.rules.specs.Calls.{Outcome, answer_words}
 use Rattle.rules.specs.Text.{decimal, further_fields, line_end}
-use Rattle.answers.specs.declared.Ran.{Ran}
+use Rattle.answers.specs.declared.Refused.{Refused}
+use Rattle.answers.specs.declared.Refused.TheVariants as refused
 
 -- ---- room
 
@@ -17,21 +18,35 @@ answer_room = 128
 
 -- ---- answers
 
+-- the number of a refusal: that of the call, or 99 for a line that makes none
+abbrev pub number_of : Refused → ℕ
+number_of (refused.Call r) = r
+number_of refused.Line = 99
+
+-- the number that a call returned, and how many words of the area are answered
+abbrev pub returned : Result ℕ Refused → ℕ
+returned (Ok k) = 0
+returned (Err e) = number_of e
+
+abbrev pub count_of : Result ℕ Refused → ℕ
+count_of (Ok k) = k
+count_of (Err e) = 0
+
 -- the first `count` words of an area
 abbrev pub shown : ℕ → List ℕ → List ℕ
 shown count area = words_of (take (4 * count) area)
 
 -- r and the area tell the number and the words of the outcome o, and `table` is the outcome's
-pub record Shows (o : Outcome) (r : Ran) (table : List ℕ) (area : List ℕ) : Type 0 where
-  pub number : r.returned ≡ o.returned
+pub record Shows (o : Outcome) (r : Result ℕ Refused) (table : List ℕ) (area : List ℕ) : Type 0 where
+  pub number : returned r ≡ o.returned
   pub left : table ≡ o.table
-  pub words : shown r.count area ≡ answer_words o
-  pub within : 4 * r.count ≤ length area
+  pub words : shown (count_of r) area ≡ answer_words o
+  pub within : 4 * count_of r ≤ length area
 
 -- field i of an answer: a comma, and word i of the area where i is below `count`
 abbrev pub field_or : ℕ → List ℕ → ℕ → List ℕ
 field_or count area i = 44 ∷ cond (ltb i count) (decimal (word area i)) []
 
 -- the line of n + 3 fields that tells r and the words of the area
-abbrev pub shown_line : ℕ → Ran → List ℕ → List ℕ
-shown_line n r area = decimal r.returned ++ further_fields (n + 2) (shown r.count area) ++ line_end
+abbrev pub told_line : ℕ → Result ℕ Refused → List ℕ → List ℕ
+told_line n r area = decimal (returned r) ++ further_fields (n + 2) (shown (count_of r) area) ++ line_end

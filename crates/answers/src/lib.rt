@@ -1,10 +1,12 @@
 // The lines that the text program writes (document 01).
 #![tactic(auto)]
 
-ghost use Rattle.std.specs.Prelude.{◌≡◌, cond, ◌+◌, ◌*◌, ◌≤◌, eqb, length};
-ghost use Rattle.rules.specs.Text.{further_fields, line_end, alone_line};
-ghost use Rattle.decimal.specs.Appended.{Appended};
-ghost use Rattle.answers.specs.Shows.{answer_room, field_or, shown, shown_line};
+ghost use Rattle.std.specs.Prelude.{◌≡◌, ◌++◌, ◌+◌, ◌*◌, ◌≤◌, eqb, cond, length};
+ghost use Rattle.rules.specs.Text.{decimal, further_fields, line_end, alone_line};
+ghost use Rattle.decimal.specs.Output.{Writes};
+ghost use Rattle.answers.specs.Shows.{answer_room, field_or, shown, number_of, returned, count_of, told_line};
+
+use decimal::Output;
 
 // The bytes of an answer area: ten words, as many as a failure line of eight processes has.
 pub const AREA_ROOM: usize = 40;
@@ -12,81 +14,93 @@ pub const AREA_ROOM: usize = 40;
 // Room for an answer.
 pub const ANSWER_ROOM: usize = 128;
 
-// A returned number, and how many words of the area are answered.
-#[derive(Drop)]
-pub struct Ran {
-    pub returned: u32,
-    pub count: usize,
+// Why a line is answered no words.
+#[derive(Clone, Copy, Debug, PartialEq, Eq, Drop)]
+pub enum Refused {
+    // The call returned this number.
+    Call(u32),
+    // The line can't be read, or is a second fresh.
+    Line,
+}
+
+impl Refused {
+    // The number that the answer begins with.
+    fn number(self) -> u32
+        ensures { result ≡ number_of self }
+    {
+        match self {
+            Refused::Call(number) => number,
+            Refused::Line => 99,
+        }
+    }
 }
 
 // What a call that returned this number answers: `count` words, or none where it was refused.
-pub fn told(returned: u32, count: usize) -> Ran
-    ensures { (result.returned ≡ returned) × (result.count ≡ cond (eqb returned 0) count 0) }
+pub fn told(number: u32, count: usize) -> Result<usize, Refused>
+    ensures { (returned result ≡ number) × (count_of result ≡ cond (eqb number 0) count 0) }
 {
-    if returned == 0 {
-        return Ran {
-            returned: returned,
-            count: count,
-        };
-    }
-    Ran {
-        returned: returned,
-        count: 0,
+    match number {
+        0 => Ok(count),
+        _ => Err(Refused::Call(number)),
     }
 }
 
 // Writes a comma and field i of the answer: word i of the area where i is below `count`, else nothing.
-fn put_field(out: &mut [u8], at: usize, area: &[u8], count: usize, i: usize) -> usize
-    requires { (at + 11 ≤ length out.old) × (4 * count ≤ length area.now) }
-    ensures { Appended out.old at out.new result (field_or count area.now i) × (result ≤ at + 11) }
+fn put_field(out: &mut Output, area: &[u8], count: usize, i: usize)
+    requires { (11 ≤ length out.old.rest) × (4 * count ≤ length area.now) }
+    ensures { Writes out.old (field_or count area.now i) 11 out.new }
 {
-    out[at] = 44;
+    out.push(b',');
     if i < count {
-        return decimal::put(out, at + 1, xdr::get(area, i));
+        decimal::put(out, xdr::get(area, i));
     }
-    at + 1
 }
 
 // Writes k fields, each after a comma, the first of them the first `count` words of the area.
-fn put_fields(out: &mut [u8], at: usize, area: &[u8], count: usize, k: usize) -> usize
-    requires { (k ≤ 10) × (at + 110 ≤ length out.old) × (4 * count ≤ length area.now) }
-    ensures { Appended out.old at out.new result (further_fields k (shown count area.now)) × (result ≤ at + 110) }
+fn put_fields(out: &mut Output, area: &[u8], count: usize, k: usize)
+    requires { (k ≤ 10) × (110 ≤ length out.old.rest) × (4 * count ≤ length area.now) }
+    ensures { Writes out.old (further_fields k (shown count area.now)) 110 out.new }
 {
-    let mut to = at;
-    let mut i: usize = 0;
-    while i < k {
-        to = put_field(out, to, area, count, i);
-        i += 1;
+    for i in 0..k {
+        put_field(out, area, count, i);
     }
-    to
 }
 
 // Writes CR LF.
-fn put_end(out: &mut [u8], at: usize) -> usize
-    requires { at + 2 ≤ length out.old }
-    ensures { Appended out.old at out.new result line_end × (result ≤ at + 2) }
+fn put_end(out: &mut Output)
+    requires { 2 ≤ length out.old.rest }
+    ensures { Writes out.old line_end 2 out.new }
 {
-    out[at] = 13;
-    out[at + 1] = 10;
-    at + 2
+    out.push(b'\r');
+    out.push(b'\n');
 }
 
-// Writes a line of n + 3 fields: the returned number, then the words answered.
-pub fn put_answer(out: &mut [u8], at: usize, n: usize, r: Ran, area: &[u8]) -> usize
-    requires { (n ≤ 8) × (at + answer_room ≤ length out.old) × (4 * r.count ≤ length area.now) }
-    ensures { Appended out.old at out.new result (shown_line n r area.now) × (result ≤ at + answer_room) }
+// Writes a line of n + 3 fields: the number returned, then the first `count` words of the area.
+fn put_line(out: &mut Output, n: usize, number: u32, count: usize, area: &[u8])
+    requires { (n ≤ 8) × (answer_room ≤ length out.old.rest) × (4 * count ≤ length area.now) }
+    ensures { Writes out.old (decimal number ++ further_fields (n + 2) (shown count area.now) ++ line_end) answer_room out.new }
 {
-    let count = r.count;
-    let a = decimal::put(out, at, r.returned);
-    let b = put_fields(out, a, area, count, n + 2);
-    put_end(out, b)
+    decimal::put(out, number);
+    put_fields(out, area, count, n + 2);
+    put_end(out);
+}
+
+// Writes the line that tells what a line's call returned, on a table of n processes.
+pub fn put_answer(out: &mut Output, n: usize, told: Result<usize, Refused>, area: &[u8])
+    requires { (n ≤ 8) × (answer_room ≤ length out.old.rest) × (4 * count_of told ≤ length area.now) }
+    ensures { Writes out.old (told_line n told area.now) answer_room out.new }
+{
+    match told {
+        Ok(count) => put_line(out, n, 0, count, area),
+        Err(refused) => put_line(out, n, refused.number(), 0, area),
+    }
 }
 
 // Writes a line of the one field v.
-pub fn put_alone(out: &mut [u8], at: usize, v: u32) -> usize
-    requires { at + answer_room ≤ length out.old }
-    ensures { Appended out.old at out.new result (alone_line v) × (result ≤ at + answer_room) }
+pub fn put_alone(out: &mut Output, v: u32)
+    requires { answer_room ≤ length out.old.rest }
+    ensures { Writes out.old (alone_line v) answer_room out.new }
 {
-    let a = decimal::put(out, at, v);
-    put_end(out, a)
+    decimal::put(out, v);
+    put_end(out);
 }

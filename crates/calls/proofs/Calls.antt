@@ -8,17 +8,19 @@ use native.Mathlib.Nat.{not-suc-le-zero}
 use lib.Dec.{eqb}
 use lib.ListN.{length, take, drop, replicate, length-append, length-replicate}
 use lib.Seq.{take_at}
+use Rattle.std.specs.Prelude.{Result, Ok}
+use Rattle.fields.specs.declared.Unreadable.{Unreadable}
 use Rattle.xdr.specs.Words.{words}
 use Rattle.rules.specs.Calls.{Outcome, outcome, answer_words}
 use Rattle.rules.specs.Text.{ran}
 use Rattle.reading.specs.declared.Call.{Call}
 use Rattle.reading.specs.Meanings.{reading_of}
-use Rattle.answers.specs.declared.Ran.{Ran}
-use Rattle.answers.specs.Shows.{Shows, area_room, shown}
+use Rattle.answers.specs.declared.Refused.{Refused}
+use Rattle.answers.specs.Shows.{Shows, area_room, shown, returned, count_of}
 
 -- the outcome of a line whose case of the enum is known
-pub ran_as : (n : ℕ) (t : List ℕ) {x y : Call} → x ≡ y → ran n t (reading_of y) ≡ ran n t (reading_of x)
-ran_as n t e = ap (λ (z : Call). ran n t (reading_of z)) (sym e)
+pub ran_as : (n : ℕ) (t : List ℕ) {s : Result Call Unreadable} {x y : Call} → s ≡ Ok x → x ≡ y → ran n t (reading_of (Ok y)) ≡ ran n t (reading_of s)
+ran_as n t e f = ap (λ (z : Result Call Unreadable). ran n t (reading_of z)) (sym (e ∙ ap Ok f))
 
 take_zeros : (m k : ℕ) → m ≤ k → take m (replicate {A = ℕ} k 0) ≡ replicate m 0
 take_zeros zero k le = refl
@@ -29,8 +31,8 @@ pub area_length_lem : (area : List ℕ) → area ≡ replicate area_room 0 → l
 area_length_lem area e = ap length e ∙ length-replicate {A = ℕ} area_room 0
 
 -- res says what a call that returned r and has k words answers
-abbrev pub Told : ℕ → ℕ → Ran → Type 0
-Told r k res = (res.returned ≡ r) × (res.count ≡ cond (eqb r 0) k 0)
+abbrev pub Told : ℕ → ℕ → Result ℕ Refused → Type 0
+Told r k res = (returned res ≡ r) × (count_of res ≡ cond (eqb r 0) k 0)
 
 shows_words : (r k : ℕ) (t a rest : List ℕ) → length a ≡ 4 * k → shown (cond (eqb r 0) k 0) (a ++ rest) ≡ answer_words (outcome r t a)
 shows_words r k t a rest e = either (eqb r 0)
@@ -44,14 +46,14 @@ count_within true k = omega arith
 count_within false k = omega arith
 
 -- F a is the outcome of the call with the area a; it was lent the first m bytes of `area`
-pub shows_called : (F : List ℕ → Outcome) {o : Outcome} (r k m : ℕ) (t a area : List ℕ) (res : Ran) → outcome r t a ≡ F (take m area)
+pub shows_called : (F : List ℕ → Outcome) {o : Outcome} (r k m : ℕ) (t a area : List ℕ) (res : Result ℕ Refused) → outcome r t a ≡ F (take m area)
     → area ≡ replicate area_room 0 → F (replicate m 0) ≡ o → Told r k res → length a ≡ length (take m area) → m ≡ 4 * k → m ≤ area_room
     → Shows o res t (a ++ drop m area)
 shows_called F {o} r k m t a area res e zeros f told len words small =
     let lent : take m area ≡ replicate m 0 = ap (take m) zeros ∙ take_zeros m area_room small in
     let whole : outcome r t a ≡ o = e ∙ ap F lent ∙ f in
     let size : length a ≡ 4 * k = len ∙ ap length lent ∙ length-replicate {A = ℕ} m 0 ∙ words in
-    let fit : 4 * res.count ≤ 4 * k = subst (λ (c : ℕ). 4 * c ≤ 4 * k) (sym told.1) (count_within (eqb r 0) k) in
+    let fit : 4 * count_of res ≤ 4 * k = subst (λ (c : ℕ). 4 * c ≤ 4 * k) (sym told.1) (count_within (eqb r 0) k) in
     record {
       number = told.0 ∙ ap (λ (x : Outcome). x.returned) whole;
       left = ap (λ (x : Outcome). x.table) whole;
@@ -60,9 +62,9 @@ shows_called F {o} r k m t a area res e zeros f told len words small =
     }
 
 -- an outcome with an empty area has no words
-pub shows_none : {o : Outcome} (r : ℕ) (t area : List ℕ) (res : Ran) → outcome r t [] ≡ o → Told r 0 res → Shows o res t area
+pub shows_none : {o : Outcome} (r : ℕ) (t area : List ℕ) (res : Result ℕ Refused) → outcome r t [] ≡ o → Told r 0 res → Shows o res t area
 shows_none r t area res e told =
-    let fit : 4 * res.count ≤ 0 = subst (λ (c : ℕ). 4 * c ≤ 0) (sym told.1) (count_within (eqb r 0) 0) in
+    let fit : 4 * count_of res ≤ 0 = subst (λ (c : ℕ). 4 * c ≤ 0) (sym told.1) (count_within (eqb r 0) 0) in
     record {
       number = told.0 ∙ ap (λ (x : Outcome). x.returned) e;
       left = ap (λ (x : Outcome). x.table) e;

@@ -1,1 +1,1 @@
-pub mod Appended
+pub mod Output

@@ -1,9 +1,13 @@
-// Decimal writing (document 01, "The text program").
+// Text in memory that the caller lends, and decimal writing (document 01, "The text program").
 #![tactic(auto)]
 
 ghost use Rattle.std.specs.Prelude.{◌≡◌, ◌+◌, ◌/◌, ◌%◌, ◌^◌, ◌≤◌, ◌<◌, length};
 ghost use Rattle.rules.specs.Text.{decimal};
-ghost use Rattle.decimal.specs.Appended.{Appended, Digits};
+ghost use Rattle.decimal.specs.Output.{Writes, Digits};
+
+pub use output::Output;
+
+mod output;
 
 const POWERS: [u32; 10] = [
     1, 10, 100, 1000, 10000, 100000, 1000000, 10000000, 100000000, 1000000000,
@@ -20,11 +24,12 @@ fn power(i: usize) -> u32
 fn count(v: u32) -> usize
     ensures { Digits v result }
 {
-    let mut k: usize = 1;
-    while k < 10 && power(k) <= v {
-        k += 1;
+    for k in 1..10 {
+        if v < power(k) {
+            return k;
+        }
     }
-    k
+    10
 }
 
 // The digit of v that stands for 10^i.
@@ -32,28 +37,16 @@ fn digit(v: u32, i: usize) -> u8
     requires { i < 10 }
     ensures { result ≡ 48 + v / 10 ^ i % 10 }
 {
-    48 + (v / power(i) % 10) as u8
+    b'0' + (v / power(i) % 10) as u8
 }
 
-// Writes v, which has k digits, to out from `at` on, and answers where the next byte goes.
-fn put_digits(out: &mut [u8], at: usize, v: u32, k: usize) -> usize
-    requires { Digits v k × (at + 10 ≤ length out.old) }
-    ensures { Appended out.old at out.new result (decimal v) × (result ≤ at + 10) }
+// Writes v.
+pub fn put(out: &mut Output, v: u32)
+    requires { 10 ≤ length out.old.rest }
+    ensures { Writes out.old (decimal v) 10 out.new }
 {
-    let mut i = k;
-    let mut to = at;
-    while i > 0 {
-        i -= 1;
-        out[to] = digit(v, i);
-        to += 1;
+    let k = count(v);
+    for i in (0..k).rev() {
+        out.push(digit(v, i));
     }
-    to
-}
-
-// Writes v to out from `at` on, and answers where the next byte goes.
-pub fn put(out: &mut [u8], at: usize, v: u32) -> usize
-    requires { at + 10 ≤ length out.old }
-    ensures { Appended out.old at out.new result (decimal v) × (result ≤ at + 10) }
-{
-    put_digits(out, at, v, count(v))
 }

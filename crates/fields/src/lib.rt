@@ -1,81 +1,41 @@
 // The fields of a line of the text program (document 01).
 #![tactic(auto)]
 
-ghost use Rattle.std.specs.Prelude.{◌≡◌, ◌≤◌, length};
-ghost use Rattle.rules.specs.Text.{digit as digit_of, field_of};
-ghost use Rattle.rules.specs.Compared.{same as same_bytes};
-ghost use Rattle.fields.specs.Fields.{field_as, Ends};
+ghost use Rattle.std.specs.Prelude.{◌≡◌, [], ◌∷◌, MatchOption};
+ghost use Rattle.rules.specs.Text.{field_of, fields_from};
+ghost use Rattle.fields.specs.Fields.{field_as};
 
-// What a field after the word holds.
-#[derive(Drop)]
-pub enum Field {
-    Empty,
-    Number(u32),
-    Other,
-}
+// A line, or a field of it, that says nothing.
+#[derive(Clone, Copy, Debug, PartialEq, Eq, Drop)]
+pub struct Unreadable;
 
-// Whether b is a digit.
-fn digit(b: u8) -> bool
-    ensures { result ≡ digit_of b }
-{
-    (48 <= b) & (b <= 57)
-}
-
-// A field after the word: a number has 1 to 10 digits and at most 32 bits.
-pub fn read_field(s: &[u8]) -> Field
+// A field after the word: empty, or a number of 1 to 10 digits and at most 32 bits.
+pub fn read_field(s: &[u8]) -> Result<Option<u32>, Unreadable>
     ensures { field_as result ≡ field_of s.now }
 {
-    if s.len() == 0 {
-        return Field::Empty;
+    if s.is_empty() {
+        return Ok(None);
     }
     if s.len() > 10 {
-        return Field::Other;
+        return Err(Unreadable);
     }
     let mut v: u64 = 0;
-    let mut i: usize = 0;
-    while i < s.len() {
-        let b = s[i];
-        if digit(b) {
-            v = 10 * v + (b - 48) as u64;
-            i += 1;
-        } else {
-            return Field::Other;
+    for b in s {
+        if !b.is_ascii_digit() {
+            return Err(Unreadable);
         }
+        v = 10 * v + u64::from(*b - b'0');
     }
-    if v > 4294967295 {
-        return Field::Other;
+    match u32::try_from(v) {
+        Ok(v) => Ok(Some(v)),
+        Err(_) => Err(Unreadable),
     }
-    Field::Number(v as u32)
 }
 
-// Whether two texts are the same.
-pub fn same(s: &[u8], t: &[u8]) -> bool
-    ensures { result ≡ same_bytes s.now t.now }
+// The bytes before the first comma, and those behind it.
+pub fn cut(s: &[u8]) -> Option<(&[u8], &[u8])>
+    ensures { MatchOption result (fields_from [] s.now ≡ s.now ∷ []) (λ p. fields_from [] s.now ≡ p.0.now ∷ fields_from [] p.1.now) }
 {
-    if s.len() != t.len() {
-        return false;
-    }
-    let mut i: usize = 0;
-    while i < s.len() {
-        if s[i] != t[i] {
-            return false;
-        }
-        i += 1;
-    }
-    true
-}
-
-// Where the field that starts at `from` ends: at the next comma, or with the line.
-pub fn end(s: &[u8], from: usize) -> usize
-    requires { from ≤ length s.now }
-    ensures { Ends s.now from result }
-{
-    let mut i = from;
-    while i < s.len() {
-        if s[i] == 44 {
-            return i;
-        }
-        i += 1;
-    }
-    i
+    let i = s.iter().position(|b| *b == b',')?;
+    Some((&s[..i], &s[i + 1..]))
 }

@@ -1,15 +1,26 @@
 // Reading a line of the text program (document 01).
 #![tactic(auto)]
 
-ghost use Rattle.std.specs.Prelude.{◌≡◌};
-ghost use Rattle.rules.specs.Text.{number, empty, asked, word_of, read_line};
+ghost use Rattle.std.specs.Prelude.{◌≡◌, ◌≢◌, [], ◌∷◌, Ok, MatchOption, length};
+ghost use Rattle.rules.specs.Text.{asked, word_of, fields_from, read_line};
 ghost use Rattle.fields.specs.Fields.{field_as};
-ghost use Rattle.reading.specs.Meanings.{reading_of};
+ghost use Rattle.reading.specs.Meanings.{word_as, reading_of};
 
-use fields::Field;
+use fields::{Unreadable, cut, read_field};
+
+// The word of a line.
+#[derive(Clone, Copy, Debug, PartialEq, Eq, Drop)]
+enum Word {
+    Fresh,
+    Checkpoint,
+    Send,
+    Receipt,
+    Line,
+    Failed,
+}
 
 // What a line says.
-#[derive(Drop)]
+#[derive(Clone, Copy, Debug, PartialEq, Eq, Drop)]
 pub enum Call {
     Fresh { n: u32, e: u32 },
     Checkpoint { p: u32 },
@@ -17,113 +28,79 @@ pub enum Call {
     Receipt { p: u32, q: u32, k: u32 },
     Line { number: u32 },
     Failed { mask: u32 },
-    Unreadable,
 }
 
-// The call that the word w makes with one number.
-fn with_one(w: &[u8], a: u32) -> Call
-    ensures { reading_of result ≡ asked (word_of w.now) (number a) empty empty }
+fn read_word(s: &[u8]) -> Result<Word, Unreadable>
+    ensures { word_as result ≡ word_of s.now }
 {
-    if fields::same(w, b"checkpoint") {
-        return Call::Checkpoint { p: a };
+    if s == b"fresh".as_slice() {
+        return Ok(Word::Fresh);
     }
-    if fields::same(w, b"line") {
-        return Call::Line { number: a };
+    if s == b"checkpoint".as_slice() {
+        return Ok(Word::Checkpoint);
     }
-    if fields::same(w, b"failed") {
-        return Call::Failed { mask: a };
+    if s == b"send".as_slice() {
+        return Ok(Word::Send);
     }
-    Call::Unreadable
+    if s == b"receipt".as_slice() {
+        return Ok(Word::Receipt);
+    }
+    if s == b"line".as_slice() {
+        return Ok(Word::Line);
+    }
+    if s == b"failed".as_slice() {
+        return Ok(Word::Failed);
+    }
+    Err(Unreadable)
 }
 
-// The call that the word w makes with two numbers.
-fn with_two(w: &[u8], a: u32, b: u32) -> Call
-    ensures { reading_of result ≡ asked (word_of w.now) (number a) (number b) empty }
+// The call of a word with the fields x, y and z.
+fn with_fields(
+    word: Word,
+    x: Option<u32>,
+    y: Option<u32>,
+    z: Option<u32>,
+) -> Result<Call, Unreadable>
+    ensures { reading_of result ≡ asked (word_as (Ok word)) (field_as (Ok x)) (field_as (Ok y)) (field_as (Ok z)) }
 {
-    if fields::same(w, b"send") {
-        return Call::Send { p: a, q: b };
-    }
-    if fields::same(w, b"fresh") {
-        return Call::Fresh { n: a, e: b };
-    }
-    Call::Unreadable
-}
-
-// The call that the word w makes with three numbers.
-fn with_three(w: &[u8], a: u32, b: u32, c: u32) -> Call
-    ensures { reading_of result ≡ asked (word_of w.now) (number a) (number b) (number c) }
-{
-    if fields::same(w, b"receipt") {
-        return Call::Receipt { p: a, q: b, k: c };
-    }
-    Call::Unreadable
-}
-
-// The call of the word w and the fields a, b and z, of which the first two are numbers.
-fn after_two(w: &[u8], a: u32, b: u32, z: Field) -> Call
-    ensures { reading_of result ≡ asked (word_of w.now) (number a) (number b) (field_as z) }
-{
-    match z {
-        Field::Empty => with_two(w, a, b),
-        Field::Number(c) => with_three(w, a, b, c),
-        Field::Other => Call::Unreadable,
+    match (word, x, y, z) {
+        (Word::Fresh, Some(n), Some(e), None) => Ok(Call::Fresh { n, e }),
+        (Word::Checkpoint, Some(p), None, None) => Ok(Call::Checkpoint { p }),
+        (Word::Send, Some(p), Some(q), None) => Ok(Call::Send { p, q }),
+        (Word::Receipt, Some(p), Some(q), Some(k)) => Ok(Call::Receipt { p, q, k }),
+        (Word::Line, Some(number), None, None) => Ok(Call::Line { number }),
+        (Word::Failed, Some(mask), None, None) => Ok(Call::Failed { mask }),
+        _ => Err(Unreadable),
     }
 }
 
-// The call of the word w and the fields a, y and z, of which the first is a number.
-fn after_one(w: &[u8], a: u32, y: Field, z: Field) -> Call
-    ensures { reading_of result ≡ asked (word_of w.now) (number a) (field_as y) (field_as z) }
+// The fields of a line that has four.
+fn four_fields(s: &[u8]) -> Option<(&[u8], &[u8], &[u8], &[u8])>
+    ensures { MatchOption result (length (fields_from [] s.now) ≢ 4) (λ f. fields_from [] s.now ≡ f.0.now ∷ f.1.now ∷ f.2.now ∷ f.3.now ∷ []) }
 {
-    match y {
-        Field::Empty => match z {
-            Field::Empty => with_one(w, a),
-            Field::Number(_) => Call::Unreadable,
-            Field::Other => Call::Unreadable,
-        },
-        Field::Number(b) => after_two(w, a, b, z),
-        Field::Other => Call::Unreadable,
-    }
-}
-
-// The call of the word w and the fields x, y and z.
-fn after_word(w: &[u8], x: Field, y: Field, z: Field) -> Call
-    ensures { reading_of result ≡ asked (word_of w.now) (field_as x) (field_as y) (field_as z) }
-{
-    match x {
-        Field::Empty => Call::Unreadable,
-        Field::Number(a) => after_one(w, a, y, z),
-        Field::Other => Call::Unreadable,
+    let (word, s) = cut(s)?;
+    let (x, s) = cut(s)?;
+    let (y, z) = cut(s)?;
+    match cut(z) {
+        None => Some((word, x, y, z)),
+        Some(_) => None,
     }
 }
 
 // What a line says, its CR LF left out.
-pub fn read_line(s: &[u8]) -> Call
+pub fn read_line(s: &[u8]) -> Result<Call, Unreadable>
     ensures { reading_of result ≡ read_line s.now }
 {
-    let n = s.len();
-    if n > 64 {
-        return Call::Unreadable;
+    if s.len() > 64 {
+        return Err(Unreadable);
     }
-    let a = fields::end(s, 0);
-    if a == n {
-        return Call::Unreadable;
-    }
-    let x = a + 1;
-    let b = fields::end(s, x);
-    if b == n {
-        return Call::Unreadable;
-    }
-    let y = b + 1;
-    let c = fields::end(s, y);
-    if c == n {
-        return Call::Unreadable;
-    }
-    let z = c + 1;
-    if fields::end(s, z) != n {
-        return Call::Unreadable;
-    }
-    let f = fields::read_field(&s[x..b]);
-    let g = fields::read_field(&s[y..c]);
-    let h = fields::read_field(&s[z..]);
-    after_word(&s[..a], f, g, h)
+    let Some((word, x, y, z)) = four_fields(s) else {
+        return Err(Unreadable);
+    };
+    with_fields(
+        read_word(word)?,
+        read_field(x)?,
+        read_field(y)?,
+        read_field(z)?,
+    )
 }

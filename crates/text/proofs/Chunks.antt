@@ -6,14 +6,13 @@ use Rattle.session.specs.declared.Session.{Session}
 use Rattle.session.specs.Session.{owed_by}
 use Rattle.text.specs.Chunks.{Turn, Fed, chunks, outputs, AnyChunks}
 
-fed_all : (s : Session) (line room : List ℕ) (ts : List Turn) (rest last : List ℕ) → Fed s line room ts rest last
-    → outputs ts ++ last ≡ owed_by s line room (chunks ts ++ rest)
-fed_all s line room [] rest last h = h
-fed_all s line room (t ∷ ts) rest last h =
+fed_all : (s : Session) (ts : List Turn) (rest last : List ℕ) → Fed s ts rest last → outputs ts ++ last ≡ owed_by s (chunks ts ++ rest)
+fed_all s [] rest last h = h
+fed_all s (t ∷ ts) rest last h =
     append_assoc t.written (outputs ts) last
-    ∙ ap (λ (l : List ℕ). t.written ++ l) (fed_all t.session t.line t.room ts rest last h.1)
+    ∙ ap (λ (l : List ℕ). t.written ++ l) (fed_all t.session ts rest last h.1)
     ∙ sym (h.0 (chunks ts ++ rest))
-    ∙ ap (owed_by s line room) (sym (append_assoc t.chunk (chunks ts) rest))
+    ∙ ap (owed_by s) (sym (append_assoc t.chunk (chunks ts) rest))
 
 pub any_chunks : AnyChunks
-any_chunks s line room start ts rest last h = fed_all s line room ts rest last h ∙ start (chunks ts ++ rest)
+any_chunks s start ts rest last h = fed_all s ts rest last h ∙ start (chunks ts ++ rest)

@@ -37,11 +37,11 @@ slice_bounds-ckpt_failed-end-in-Failed c = let a = c.args in
 pub returns-in-Line : goal.returns-in-Line
 returns-in-Line c = let a = c.args in
     shows_called (λ l. line_on a.table.now l c.in-Line.number) _ a.n (4 * a.n) _ _ a.area.now _
-    c.ckpt_line.ensures c.requires.1 (ran_as a.n a.table.now c.in-Line.is) c.told-in-Line.ensures
+    c.ckpt_line.ensures c.requires.1 (ran_as a.n a.table.now c.in-Ok.is c.in-Line.is) c.told-in-Line.ensures
     (search rules) refl (omega (arith, c.requires.0))
 
 pub returns-in-Failed : goal.returns-in-Failed
 returns-in-Failed c = let a = c.args in
     shows_called (λ l. failed_on a.table.now l c.in-Failed.mask) _ (a.n + 2) (4 * a.n + 8) _ _ a.area.now _
-    c.ckpt_failed.ensures c.requires.1 (ran_as a.n a.table.now c.in-Failed.is) c.told-in-Failed.ensures
+    c.ckpt_failed.ensures c.requires.1 (ran_as a.n a.table.now c.in-Ok.is c.in-Failed.is) c.told-in-Failed.ensures
     (search rules) (omega arith) (omega (arith, c.requires.0))

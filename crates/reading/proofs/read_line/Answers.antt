@@ -1,33 +1,35 @@
-use mathlib.Core.Path.{sym, ◌∙◌}
-use lib.ListN.{take}
-use lib.Seq.{length-take-le}
-use Rattle.rules.specs.Text.{word_of}
-use Rattle.reading.proofs.Lines.{long_line, one_field, two_fields, three_fields, five_fields, four_fields, read_as}
+use mathlib.Core.Path.{◌∙◌}
+use Rattle.reading.proofs.Lines.{long_line, not_four, four, refused, first_other, second_other, third_other, no_such_word, read_as}
 use Rattle.reading.proofs.read_line.Goals as goal
 
-pub returns-then-n-gt64 : goal.returns-then-n-gt64
-returns-then-n-gt64 c = long_line c.args.s.now c.if-n-gt64.true
+pub returns-then-s-gt64 : goal.returns-then-s-gt64
+returns-then-s-gt64 c = long_line c.args.s.now c.if-s-gt64.true
 
-pub returns-then-a-n : goal.returns-then-a-n
-returns-then-a-n c = one_field c.args.s.now _ c.end-a.ensures c.if-a-n.true
+pub returns-in_default : goal.returns-in_default
+returns-in_default c = not_four c.args.s.now c.in_default.ensures
 
-pub returns-then-b-n : goal.returns-then-b-n
-returns-then-b-n c = two_fields c.args.s.now _ _ c.end-a.ensures c.if-a-n.false c.end-b.ensures c.if-b-n.true
+pub returns-in_err-read_word : goal.returns-in_err-read_word
+returns-in_err-read_word c =
+    refused _ c.args.s.now c.from_residual.ensures.0
+    (no_such_word _ _ _ c.in_err-read_word.ensures ∙ four c.args.s.now _ _ _ _ c.if-s-gt64.false c.in-Some.ensures)
 
-pub returns-then-c-n : goal.returns-then-c-n
-returns-then-c-n c = three_fields c.args.s.now _ _ _ c.end-a.ensures c.if-a-n.false c.end-b.ensures c.if-b-n.false
-    c.end-c.ensures c.if-c-n.true
+pub returns-in_err-read_field : goal.returns-in_err-read_field
+returns-in_err-read_field c =
+    refused _ c.args.s.now c.from_residual-in_err-read_field.ensures.0
+    (first_other _ _ _ c.in_err-read_field.ensures ∙ four c.args.s.now _ _ _ _ c.if-s-gt64.false c.in-Some.ensures)
 
-pub returns-then-end-n : goal.returns-then-end-n
-returns-then-end-n c = five_fields c.args.s.now _ _ _ _ c.end-a.ensures c.if-a-n.false c.end-b.ensures c.if-b-n.false
-    c.end-c.ensures c.if-c-n.false c.end.ensures c.if-end-n.true
+pub returns-in_err-read_field-2 : goal.returns-in_err-read_field-2
+returns-in_err-read_field-2 c =
+    refused _ c.args.s.now c.from_residual-in_err-read_field-2.ensures.0
+    (second_other _ _ _ c.in_err-read_field-2.ensures ∙ four c.args.s.now _ _ _ _ c.if-s-gt64.false c.in-Some.ensures)
 
-pub slice_bounds-after_word-end : goal.slice_bounds-after_word-end
-slice_bounds-after_word-end c = sym (length-take-le _ c.args.s.now c.end-a.ensures.1)
+pub returns-in_err-read_field-3 : goal.returns-in_err-read_field-3
+returns-in_err-read_field-3 c =
+    refused _ c.args.s.now c.from_residual-in_err-read_field-3.ensures.0
+    (third_other _ _ _ c.in_err-read_field-3.ensures ∙ four c.args.s.now _ _ _ _ c.if-s-gt64.false c.in-Some.ensures)
 
 pub returns : goal.returns
-returns c = let a = c.args in
-    c.after_word.ensures ∙ read_as (word_of (take c.end-a.result a.s.now)) c.read_field-f.ensures
-    c.read_field-g.ensures c.read_field-h.ensures ∙ four_fields a.s.now _ _ _ _ c.if-n-gt64.false
-    c.end-a.ensures c.if-a-n.false c.end-b.ensures c.if-b-n.false c.end-c.ensures c.if-c-n.false
-    c.end.ensures c.if-end-n.false
+returns c =
+    c.with_fields.ensures
+    ∙ read_as c.in_ok-read_word.ensures c.in_ok-read_field.ensures c.in_ok-read_field-2.ensures c.in_ok-read_field-3.ensures
+    ∙ four c.args.s.now _ _ _ _ c.if-s-gt64.false c.in-Some.ensures

@@ -1,0 +1,21 @@
+-- What the functions that write text promise.
+use Rattle.std.specs.Prelude.{◌≡◌, List, ◌++◌, ℕ, ◌+◌, ◌-◌, ◌^◌, ◌≤◌, ◌<◌, length, drop}
+
+-- memory that a text is written to: what is written, and the bytes behind it
+pub record Page : Type 0 where
+  pub written : List ℕ
+  pub rest : List ℕ
+
+abbrev pub page : List ℕ → List ℕ → Page
+page w r = record { written = w; rest = r }
+
+-- the text s, of n bytes at most, is written behind what was written before, and the bytes behind it are as they were
+pub record Writes (before : Page) (s : List ℕ) (n : ℕ) (after : Page) : Type 0 where
+  pub room : length after.written + length after.rest ≡ length before.written + length before.rest
+  pub text : after.written ≡ before.written ++ s
+  pub rest : after.rest ≡ drop (length s) before.rest
+  pub most : length s ≤ n
+
+-- v has k digits, up to ten, and 0 has one
+abbrev pub Digits : ℕ → ℕ → Type 0
+Digits v k = (1 ≤ k) × (k ≤ 10) × (v < 10 ^ k) × (1 < k → 10 ^ (k - 1) ≤ v)
