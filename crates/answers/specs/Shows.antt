@@ -1,8 +1,9 @@
 -- What the functions that run a line's call and write its answer promise.
-use Rattle.std.specs.Prelude.{◌≡◌, cond, List, [], ◌∷◌, ◌++◌, ℕ, ◌+◌, ◌*◌, ◌≤◌, ltb, length, take, Result, Ok, Err}
+use Rattle.std.specs.Prelude.{◌≡◌, cond, List, [], ◌∷◌, ◌++◌, ℕ, ◌+◌, ◌*◌, ◌≤◌, eqb, ltb, length, take, Result, Ok, Err}
 use Rattle.xdr.specs.Words.{word, words as words_of}
 use Rattle.rules.specs.Calls.{Outcome, answer_words}
 use Rattle.rules.specs.Text.{decimal, further_fields, line_end}
+use Rattle.refusals.specs.Refusals.{number_of as refusal_number}
 use Rattle.answers.specs.declared.Refused.{Refused}
 use Rattle.answers.specs.declared.Refused.TheVariants as refused
 
@@ -20,7 +21,7 @@ answer_room = 128
 
 -- the number of a refusal: that of the call, or 99 for a line that makes none
 abbrev pub number_of : Refused → ℕ
-number_of (refused.Call r) = r
+number_of (refused.Call r) = refusal_number r
 number_of refused.Line = 99
 
 -- the number that a call returned, and how many words of the area are answered
@@ -31,6 +32,10 @@ returned (Err e) = number_of e
 abbrev pub count_of : Result ℕ Refused → ℕ
 count_of (Ok k) = k
 count_of (Err e) = 0
+
+-- res says what a call that returned the number r and has k words answers
+abbrev pub Told : ℕ → ℕ → Result ℕ Refused → Type 0
+Told r k res = (returned res ≡ r) × (count_of res ≡ cond (eqb r 0) k 0)
 
 -- the first `count` words of an area
 abbrev pub shown : ℕ → List ℕ → List ℕ

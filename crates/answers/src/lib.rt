@@ -1,12 +1,14 @@
 // The lines that the text program writes (document 01).
 #![tactic(auto)]
 
-ghost use Rattle.std.specs.Prelude.{◌≡◌, ◌++◌, ◌+◌, ◌*◌, ◌≤◌, eqb, cond, length};
+ghost use Rattle.std.specs.Prelude.{◌≡◌, ◌++◌, ◌+◌, ◌*◌, ◌≤◌, length};
 ghost use Rattle.rules.specs.Text.{decimal, further_fields, line_end, alone_line};
 ghost use Rattle.decimal.specs.Output.{Writes};
-ghost use Rattle.answers.specs.Shows.{answer_room, field_or, shown, number_of, returned, count_of, told_line};
+ghost use Rattle.refusals.specs.Refusals.{returned as refusal_of};
+ghost use Rattle.answers.specs.Shows.{answer_room, field_or, shown, number_of, count_of, Told, told_line};
 
 use decimal::Output;
+use refusals::Refusal;
 
 // The bytes of an answer area: ten words, as many as a failure line of eight processes has.
 pub const AREA_ROOM: usize = 40;
@@ -17,8 +19,8 @@ pub const ANSWER_ROOM: usize = 128;
 // Why a line is answered no words.
 #[derive(Clone, Copy, Debug, PartialEq, Eq, Drop)]
 pub enum Refused {
-    // The call returned this number.
-    Call(u32),
+    // By the call.
+    Call(Refusal),
     // The line can't be read, or is a second fresh.
     Line,
 }
@@ -29,19 +31,19 @@ impl Refused {
         ensures { result ≡ number_of self }
     {
         match self {
-            Refused::Call(number) => number,
+            Refused::Call(refusal) => u32::from(refusal),
             Refused::Line => 99,
         }
     }
 }
 
-// What a call that returned this number answers: `count` words, or none where it was refused.
-pub fn told(number: u32, count: usize) -> Result<usize, Refused>
-    ensures { (returned result ≡ number) × (count_of result ≡ cond (eqb number 0) count 0) }
+// What a call is told by: `count` words, or none where it was refused.
+pub fn told(outcome: Result<(), Refusal>, count: usize) -> Result<usize, Refused>
+    ensures { Told (refusal_of outcome) count result }
 {
-    match number {
-        0 => Ok(count),
-        _ => Err(Refused::Call(number)),
+    match outcome {
+        Ok(()) => Ok(count),
+        Err(refusal) => Err(Refused::Call(refusal)),
     }
 }
 

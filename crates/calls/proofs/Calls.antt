@@ -16,7 +16,7 @@ use Rattle.rules.specs.Text.{ran}
 use Rattle.reading.specs.declared.Call.{Call}
 use Rattle.reading.specs.Meanings.{reading_of}
 use Rattle.answers.specs.declared.Refused.{Refused}
-use Rattle.answers.specs.Shows.{Shows, area_room, shown, returned, count_of}
+use Rattle.answers.specs.Shows.{Shows, Told, area_room, shown, count_of}
 
 -- the outcome of a line whose case of the enum is known
 pub ran_as : (n : ℕ) (t : List ℕ) {s : Result Call Unreadable} {x y : Call} → s ≡ Ok x → x ≡ y → ran n t (reading_of (Ok y)) ≡ ran n t (reading_of s)
@@ -29,10 +29,6 @@ take_zeros (suc m) (suc k) le = ap (λ (l : List ℕ). 0 ∷ l) (take_zeros m k 
 
 pub area_length_lem : (area : List ℕ) → area ≡ replicate area_room 0 → length area ≡ area_room
 area_length_lem area e = ap length e ∙ length-replicate {A = ℕ} area_room 0
-
--- res says what a call that returned r and has k words answers
-abbrev pub Told : ℕ → ℕ → Result ℕ Refused → Type 0
-Told r k res = (returned res ≡ r) × (count_of res ≡ cond (eqb r 0) k 0)
 
 shows_words : (r k : ℕ) (t a rest : List ℕ) → length a ≡ 4 * k → shown (cond (eqb r 0) k 0) (a ++ rest) ≡ answer_words (outcome r t a)
 shows_words r k t a rest e = either (eqb r 0)
