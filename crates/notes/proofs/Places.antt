@@ -1,26 +1,27 @@
 -- Where a cut's positions stand in the table.
 use mathlib.Core.Path.{◌≡◌, sym, ap, ◌∙◌}
+use mathlib.Core.Bool.{true, false}
 use mathlib.Core.List.{List}
 use Prim.Native.Nat.{ℕ, ◌+◌, ◌*◌, ◌<◌, ◌≤◌}
+use native.Mathlib.Numerals.{add-one}
 use native.Mathlib.Omega.{arith}
 use lib.ListN.{length, get_or}
 use lib.Seq.{take_all}
+use borrow.Author.Tests.{le-ltb}
 use Rattle.xdr.specs.Words.{word, words}
 use Rattle.xdr.proofs.Words.{words_get}
-use Rattle.rules.specs.Records.{history, sends}
+use Rattle.rules.specs.Records.{State, history, sends}
 use Rattle.rules.specs.Lines.{part, upto}
+use Rattle.rules.specs.Resend.{above}
+use Rattle.basics.proofs.Booleans.{Test, passes, fails, test}
 use Rattle.records.proofs.Histories.{each_older}
 use Rattle.records.proofs.Cuts.{upto_is_older, upto_exact}
+use Rattle.records.proofs.Transit.{above_none}
 use Rattle.tables.proofs.Laid.{Legal, Law, sends_length}
 use Rattle.tables.proofs.WellLaid.{decoded_short}
+use Rattle.layout.specs.declared.Table.{Table}
+use Rattle.layout.specs.Tables.{state_of}
 use Rattle.layout.proofs.Sections.{lawful, is_valid}
-use mathlib.Core.Bool.{true, false}
-use native.Mathlib.Numerals.{add-one}
-use borrow.Author.Tests.{le-ltb}
-use Rattle.basics.proofs.Booleans.{Test, passes, fails, test}
-use Rattle.rules.specs.Records.{State}
-use Rattle.rules.specs.Resend.{above}
-use Rattle.records.proofs.Transit.{above_none}
 use Rattle.notes.specs.declared.cut.Cut.{Cut}
 use Rattle.notes.specs.Noted.{state_at, places}
 
@@ -53,16 +54,23 @@ all_within s n positions whole none p lt =
     let z = cut_at n positions whole p lt in
     omega arith
 
+-- no process has more records, or sends, than there is room for
+module _ (t : Table) where
+  pub short : (q : ℕ) → length (history (state_of t) q) ≤ t.e
+  short q =
+      let e = t.laid.2 in
+      let l = decoded_short (word t.bytes.now 0) (word t.bytes.now 1) t.bytes.now (is_valid t).is q in
+      omega arith
+
+  pub sends_short : (q : ℕ) → sends (history (state_of t) q) ≤ t.e
+  sends_short q =
+      let s = short q in
+      let l = sends_length (history (state_of t) q) in
+      omega arith
+
 module _ (c : Cut) where
   pub part_legal : (p : ℕ) → Legal c.table.n c.table.e p (part (state_at c) (places c) p)
   part_legal p = each_older (Law c.table.n c.table.e p) (upto_is_older (get_or (places c) p 0) (history (state_at c) p)) (lawful c.table p)
-
-  -- no process has more records, or sends, than there is room for
-  pub short : (q : ℕ) → length (history (state_at c) q) ≤ c.table.e
-  short q =
-      let e = c.table.laid.2 in
-      let l = decoded_short (word c.table.bytes.now 0) (word c.table.bytes.now 1) c.table.bytes.now (is_valid c.table).is q in
-      omega arith
 
   pub part_length : (p : ℕ) → p < c.table.n → length (part (state_at c) (places c) p) ≡ word c.positions.now p
   part_length p lt =
@@ -70,10 +78,4 @@ module _ (c : Cut) where
       ap (λ (i : ℕ). length (upto i h)) (cut_at c.table.n c.positions.now c.whole p lt) ∙ upto_exact (word c.positions.now p) h (c.within p lt)
 
   pub position_small : (p : ℕ) → p < c.table.n → word c.positions.now p ≤ c.table.e
-  position_small p lt = let w = c.within p lt in let s = short p in omega arith
-
-  pub sends_short : (q : ℕ) → sends (history (state_at c) q) ≤ c.table.e
-  sends_short q =
-      let s = short q in
-      let l = sends_length (history (state_at c) q) in
-      omega arith
+  position_small p lt = let w = c.within p lt in let s = short c.table p in omega arith

@@ -22,6 +22,8 @@ use Rattle.basics.proofs.Booleans.{Test, passes, fails, test, clash}
 use Rattle.records.proofs.Histories.{each_older, send_of}
 use Rattle.tables.proofs.Laid.{Legal, Law}
 use Rattle.tables.proofs.Ranges.{product}
+use Rattle.layout.specs.declared.Table.{Table}
+use Rattle.layout.specs.Tables.{state_of}
 use Rattle.layout.proofs.Sections.{processes}
 use Rattle.cuts.specs.declared.Span.{Span}
 use Rattle.cuts.specs.Notes.{span_of}
@@ -36,6 +38,12 @@ use Rattle.transit.proofs.Numbers.{transit_sends, sends_few, of_mono, below_mono
 -- a send of a lawful history goes to a process below n
 destination_below : (n E p : ℕ) (h : History) → Legal n E p h → (k : ℕ) → 0 < k → k ≤ sends h → destination h k < n
 destination_below n E p h legal k pos le = (each_older (Law n E p) (send_of h k pos le).there legal).0.0
+
+pub few_sends : (t : Table) → sends_below (state_of t) t.n ≤ 16384
+few_sends t =
+    let m = sends_few (state_of t) t.e (sends_short t) t.n in
+    let k = product t.n t.e t.laid.3 t.laid.4 in
+    omega arith
 
 module _ (c : Cut) where
   abbrev s : State
@@ -52,17 +60,10 @@ module _ (c : Cut) where
   pub all_sends : length (transit_at c) ≤ sends_below s c.table.n
   all_sends = let a = ap length all_below in let m = transit_sends s cut c.table.n in omega arith
 
-  pub few_sends : sends_below s c.table.n ≤ 16384
-  few_sends =
-      let L = c.table.laid in
-      let m = sends_few s c.table.e (sends_short c) c.table.n in
-      let k = product c.table.n c.table.e L.3 L.4 in
-      omega arith
-
   module _ (w : Walk) (to : List ℕ) (S : Stands c w to) where
     -- there are no more than all
     pub passed_few : Few c w
-    passed_few = (go (dec_lt w.q c.table.n), let x = all_sends in let y = few_sends in omega arith)
+    passed_few = (go (dec_lt w.q c.table.n), let x = all_sends in let y = few_sends c.table in omega arith)
       where
         a : length (transit_at c) ≡ length (transit_below s cut c.table.n)
         a = ap length all_below

@@ -82,7 +82,7 @@ impl Walk {
 // How many messages are in transit; `to` is room for notes.
 pub fn count(cut: &Cut, to: &mut [u8]) -> usize
     requires { HasRoom cut.now (length to.old) }
-    ensures { (result ≡ length (transit_at cut.now)) × (length to.new ≡ length to.old) }
+    ensures { (result ≡ length (transit_at cut.now)) × (result ≤ 16384) × (length to.new ≡ length to.old) }
 {
     let mut walk = Walk::start();
     let mut count = 0;
@@ -95,7 +95,7 @@ pub fn count(cut: &Cut, to: &mut [u8]) -> usize
 // Writes them; how many there are.
 pub fn list(cut: &Cut, area: &mut [u8], to: &mut [u8]) -> usize
     requires { HasRoom cut.now (length to.old) × (4 + 12 * length (transit_at cut.now) ≤ length area.old) }
-    ensures { (result ≡ length (transit_at cut.now)) × (area.new ≡ put_words area.old 1 (messages_words (transit_at cut.now))) }
+    ensures { (result ≡ length (transit_at cut.now)) × (result ≤ 16384) × (area.new ≡ put_words area.old 1 (messages_words (transit_at cut.now))) }
 {
     let mut walk = Walk::start();
     let mut count = 0;
