@@ -1,5 +1,5 @@
 -- What the words of records say.
-use Rattle.std.specs.Prelude.{ℕ, ◌+◌, ◌*◌}
+use Rattle.std.specs.Prelude.{◌≡◌, List, [], ◌∷◌, ℕ, suc, ◌+◌, ◌*◌}
 use Rattle.rules.specs.Records as records
 use Rattle.rules.specs.Table.{width, event_at, records_at}
 use Rattle.xdr.specs.Words.{word}
@@ -24,3 +24,17 @@ first_of r i = records_at (word r.bytes.now) r.at i
 
 abbrev pub held : Records → records.History
 held r = first_of r r.count
+
+-- what the words of a record after those of h say besides: a send's own number and what it carries
+abbrev pub Tells : records.History → Event → Type 0
+Tells h (event.Sent q k c) = (k ≡ suc (records.sends h)) × (c ≡ records.number h)
+Tells h (event.Basic m) = Unit {0}
+Tells h (event.Forced m) = Unit {0}
+Tells h (event.Received q k c) = Unit {0}
+
+-- its words
+abbrev pub words_of : Event → List ℕ
+words_of (event.Basic m) = 1 ∷ m ∷ 0 ∷ 0 ∷ []
+words_of (event.Forced m) = 2 ∷ m ∷ 0 ∷ 0 ∷ []
+words_of (event.Sent q k c) = 3 ∷ q ∷ k ∷ c ∷ []
+words_of (event.Received q k c) = 4 ∷ q ∷ k ∷ c ∷ []

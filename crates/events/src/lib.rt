@@ -2,9 +2,11 @@
 #![tactic(auto)]
 
 ghost use Rattle.std.specs.Prelude.{◌≡◌, ◌+◌, ◌*◌, ◌≤◌, ◌<◌, length};
+ghost use Rattle.xdr.specs.Words.{word};
 ghost use Rattle.rules.specs.Table.{width};
+ghost use Rattle.tables.specs.Sections.{SendsLaid};
 ghost use Rattle.rules.specs.Lines.{upto};
-ghost use Rattle.rules.specs.FailureLine.{before};
+ghost use Rattle.rules.specs.FailureLine.{any, before};
 
 // A record by its kind: what its words say.
 #[derive(Clone, Copy, Drop)]
@@ -15,7 +17,23 @@ pub enum Event {
     Received { from: u32, k: u32, carried: u32 },
 }
 
-// `count` records of a lent table, from word `at` on.
+impl Event {
+    ghost use Rattle.events.specs.Events.{words_of};
+
+    // Its words: kind, a, b and, for a send or receipt, what it carries.
+    pub fn words(self) -> [u32; 4]
+        ensures { result ≡ words_of self }
+    {
+        match self {
+            Event::Basic { number } => [1, number, 0, 0],
+            Event::Forced { number } => [2, number, 0, 0],
+            Event::Sent { to, k, carried } => [3, to, k, carried],
+            Event::Received { from, k, carried } => [4, from, k, carried],
+        }
+    }
+}
+
+// `count` records of a lent table, from word `at` on. Those that are sends are numbered in order and carry the number before them.
 #[derive(Clone, Copy, Drop)]
 pub struct Records<'a> {
     pub bytes: &'a [u8],
@@ -23,6 +41,7 @@ pub struct Records<'a> {
     pub count: usize,
     ghost few: { count ≤ 1024 },
     ghost within: { 4 * (at + width * count) ≤ length bytes.now },
+    ghost laid: { SendsLaid (word bytes.now) at count },
 }
 
 // A test of a record.
@@ -39,12 +58,13 @@ pub trait Test {
 }
 
 impl<'a> Records<'a> {
-    ghost use Rattle.events.specs.Events.{meant, record_of, held};
+    ghost use Rattle.events.specs.Events.{meant, record_of, first_of, Tells, held};
 
     // The record at index i.
     pub fn get(&self, i: usize) -> Event
         requires { i < self.now.count }
-        ensures { meant result ≡ record_of self.now i }
+        ensures event { meant result ≡ record_of self.now i }
+        ensures sent { Tells (first_of self.now i) result }
     {
         let at = self.at + shape::WIDTH * i;
         let a = xdr::get(self.bytes, at + shape::A);
@@ -88,5 +108,12 @@ impl<'a> Records<'a> {
             }
         }
         self.count
+    }
+
+    // Whether one passes.
+    pub fn any<T: Test>(&self, test: &T) -> bool
+        ensures { result ≡ any (T.passes test.now) (held self.now) }
+    {
+        self.first(test) < self.count
     }
 }

@@ -59,7 +59,6 @@ impl<'a> Table<'a> {
     ghost use Rattle.std.specs.Prelude.{IfOk};
     ghost use Rattle.rules.specs.Records.{history, number, sends};
     ghost use Rattle.events.specs.Events.{held};
-    ghost use Rattle.tables.specs.Sections.{SendsLaid};
     ghost use Rattle.layout.specs.Tables.{state_of};
 
     // The table, or the first of its own rows that is met.
@@ -116,11 +115,10 @@ impl<'a> Table<'a> {
         xdr::get_usize(self.bytes, self.start(p) + shape::SENDS)
     }
 
-    // Its records; those that are sends have their numbers and what they carry in their words.
+    // Its records.
     pub fn records(&self, p: usize) -> Records<'a>
         requires { p < self.now.n }
-        ensures held { held result ≡ history (state_of self.now) p }
-        ensures sends { SendsLaid (word result.bytes.now) result.at result.count }
+        ensures { held result ≡ history (state_of self.now) p }
     {
         let at = self.start(p) + shape::HEADING;
         Records {

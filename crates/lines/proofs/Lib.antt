@@ -1,1 +1,1 @@
-mod NumberedLine
+pub mod NumberedLine

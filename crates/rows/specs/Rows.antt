@@ -1,10 +1,12 @@
 -- The rows of a step on a table, as far as the functions of this crate check them one after the other.
-use Rattle.std.specs.Prelude.{◌≡◌, not, cond, ◌||◌, List, [], ◌∷◌, ◌++◌, ℕ, ◌+◌, ◌*◌, ◌≤◌, eqb, leb, ltb, length}
+use Rattle.std.specs.Prelude.{◌≡◌, not, cond, ◌||◌, List, [], ◌∷◌, ◌++◌, ℕ, ◌+◌, ◌<◌, eqb, leb, ltb, length}
 use Rattle.xdr.specs.Words.{word}
-use Rattle.rules.specs.Records.{History, carried, send_place, has_send, has_receipt}
-use Rattle.rules.specs.Table.{heading, width, most_words, section_of, decoded}
+use Rattle.rules.specs.Records.{History, number, carried, send_place, has_send, has_receipt}
+use Rattle.rules.specs.Table.{decoded}
 use Rattle.rules.specs.Steps.{Call}
 use Rattle.rules.specs.Calls.{Row, row, first, table_rows, step_rows}
+use Rattle.layout.specs.declared.Table.{Table}
+use Rattle.scans.specs.declared.Sent.{Sent}
 
 -- the table, an area that wants so many bytes, the acting process
 abbrev pub act_rows : List ℕ → ℕ → ℕ → ℕ → List Row
@@ -14,25 +16,21 @@ act_rows t len want p = table_rows t ++ row 4 (not (eqb len want)) ∷ row 5 (le
 abbrev pub pair_rows : List ℕ → ℕ → ℕ → ℕ → ℕ → List Row
 pair_rows t len want p q = act_rows t len want p ++ row 6 (leb (word t 0) q || eqb q p) ∷ []
 
--- the message k of q to p, and the records left: c of e records with number x are used, and h and g are the histories of p and q
-abbrev pub receipt_rows : ℕ → ℕ → ℕ → History → History → ℕ → ℕ → ℕ → List Row
-receipt_rows e c x h g p q k =
+-- the message k of q to p, and the records left of E: h and g are the histories of p and q
+abbrev pub receipt_rows : ℕ → History → History → ℕ → ℕ → ℕ → List Row
+receipt_rows E h g p q k =
     row 7 (not (has_send g p k))
     ∷ row 8 (has_receipt h q k)
-    ∷ row 9 (ltb e (c + cond (ltb x (carried g k)) 2 1))
+    ∷ row 9 (ltb E (length h + cond (ltb (number h) (carried g k)) 2 1))
     ∷ []
 
--- the same on a table, where the sections of p and q start at the words `at` and `from`
-abbrev pub receipt_rows_at : List ℕ → ℕ → ℕ → ℕ → ℕ → ℕ → ℕ → List Row
-receipt_rows_at t e at from p q k = receipt_rows e (word t at) (word t (at + 1)) (section_of (word t) at) (section_of (word t) from) p q k
-
 -- what is read of send k among the records g: the number that it carries and its place
-abbrev pub Reads : History → ℕ → ℕ → ℕ → Type 0
-Reads g k m i = (m ≡ carried g k) × (i ≡ send_place g k)
+abbrev pub Reads : History → ℕ → Sent → Type 0
+Reads g k s = (s.carried ≡ carried g k) × (s.place ≡ send_place g k)
 
--- the section that starts at word `at` lies in the table, and has at most e used records
-abbrev pub SectionIn : List ℕ → ℕ → ℕ → Type 0
-SectionIn t e at = (at ≤ most_words) × (word t at ≤ e) × (4 * (at + heading + width * e) ≤ length t)
+-- the table is in these bytes, and p is one of its processes
+abbrev pub Holds : Table → List ℕ → ℕ → Type 0
+Holds table t p = (table.bytes.now ≡ t) × (p < table.n)
 
 -- the row that stops a step on the table t
 abbrev pub step_row : List ℕ → ℕ → Call → ℕ → ℕ

@@ -1,86 +1,85 @@
 // The rows of checkpoint, send and receipt (document 01, "Where a call is stopped"), in their order.
 #![tactic(auto)]
 
-ghost use Rattle.std.specs.Prelude.{◌≡◌, cond, ◌+◌, ◌*◌, ◌≤◌};
-ghost use Rattle.xdr.specs.Words.{word};
+ghost use Rattle.std.specs.Prelude.{◌≡◌, cond, ◌+◌, ◌<◌, ◌≤◌, IfOk, ltb, length};
 ghost use Rattle.rules.specs.Records.{history};
-ghost use Rattle.rules.specs.Table.{heading, section_of, decoded};
 ghost use Rattle.rules.specs.Steps.{checkpoint, send, receipt};
 ghost use Rattle.rules.specs.Calls.{first};
-ghost use Rattle.tables.specs.Sections.{SendsLaid};
-ghost use Rattle.rows.specs.Rows.{act_rows, pair_rows, receipt_rows_at, Reads, SectionIn, step_row};
+ghost use Rattle.refusals.specs.Refusals.{returned};
+ghost use Rattle.layout.specs.Tables.{state_of};
+ghost use Rattle.rows.specs.Rows.{act_rows, pair_rows, receipt_rows, Reads, Holds, step_row};
 
-// The first row met, as far as the table, an area that wants `want` bytes and the acting process go, or 0.
-fn act_row(t: &[u8], len: usize, want: usize, p: usize) -> u32
-    ensures { result ≡ first (act_rows t.now len want p) }
+use layout::Table;
+use refusals::Refusal;
+use scans::Sent;
+
+// The lent table, where an area that wants `want` bytes and the acting process pass too.
+fn act_row<'a>(t: &'a [u8], len: usize, want: usize, p: usize) -> Result<Table<'a>, Refusal>
+    ensures row { returned result ≡ first (act_rows t.now len want p) }
+    ensures table { IfOk result (λ table. Holds table t.now p) }
 {
-    let row = layout::table_row(t);
-    if row != 0 {
-        return row;
-    }
-    let n = xdr::get_usize(t, 0);
+    let table = Table::read(t)?;
+    let n = table.n;
     if len != want {
-        return 4;
+        return Err(Refusal::BadAreaLength);
     }
     if n <= p {
-        return 5;
+        return Err(Refusal::BadProcess);
     }
-    0
+    Ok(table)
 }
 
-pub fn checkpoint_row(t: &[u8], len: usize, p: usize) -> u32
-    ensures { result ≡ step_row t.now p checkpoint len }
+// Whether process p has fewer records left than a step needs.
+fn is_full(table: &Table, p: usize, needed: usize) -> bool
+    requires { (p < table.now.n) × (needed ≤ 2) }
+    ensures { result ≡ ltb table.now.e (length (history (state_of table.now) p) + needed) }
 {
-    let row = act_row(t, len, 4, p);
-    if row != 0 {
-        return row;
-    }
-    let n = xdr::get_usize(t, 0);
-    let e = xdr::get_usize(t, 1);
-    let at = shape::start(e, p);
-    if e < xdr::get_usize(t, at) + 1 {
-        return 9;
-    }
-    if xdr::get_usize(t, at + shape::NUMBER) == n * e {
-        return 10;
-    }
-    0
+    table.e < table.count(p) + needed
 }
 
-// The first row met, as far as the table, the area, the acting process and the other process go, or 0.
-fn pair_row(t: &[u8], len: usize, want: usize, p: usize, q: usize) -> u32
-    ensures { result ≡ first (pair_rows t.now len want p q) }
+// The table, where no row stops a checkpoint of process p.
+pub fn checkpoint_row<'a>(t: &'a [u8], len: usize, p: usize) -> Result<Table<'a>, Refusal>
+    ensures row { returned result ≡ step_row t.now p checkpoint len }
+    ensures table { IfOk result (λ table. Holds table t.now p) }
 {
-    let row = act_row(t, len, want, p);
-    if row != 0 {
-        return row;
+    let table = act_row(t, len, 4, p)?;
+    if is_full(&table, p, 1) {
+        return Err(Refusal::NoRecordsLeft);
     }
-    if (xdr::get_usize(t, 0) <= q) | (q == p) {
-        return 6;
+    if table.number(p) as usize == table.n * table.e {
+        return Err(Refusal::NumberAtLimit);
     }
-    0
+    Ok(table)
 }
 
-pub fn send_row(t: &[u8], len: usize, p: usize, q: usize) -> u32
-    ensures { result ≡ step_row t.now p (send q) len }
+// The table, where the area, the acting process and the other process pass.
+fn pair_row<'a>(
+    t: &'a [u8],
+    len: usize,
+    want: usize,
+    p: usize,
+    q: usize,
+) -> Result<Table<'a>, Refusal>
+    ensures row { returned result ≡ first (pair_rows t.now len want p q) }
+    ensures table { IfOk result (λ table. Holds table t.now p × (q < table.n)) }
 {
-    let row = pair_row(t, len, 8, p, q);
-    if row != 0 {
-        return row;
+    let table = act_row(t, len, want, p)?;
+    if table.n <= q || q == p {
+        return Err(Refusal::BadOtherProcess);
     }
-    let e = xdr::get_usize(t, 1);
-    if e < xdr::get_usize(t, shape::start(e, p)) + 1 {
-        return 9;
-    }
-    0
+    Ok(table)
 }
 
-// The row that stops a receipt, or 0, the number that its message carries and the place of the send.
-#[derive(Drop)]
-pub struct Message {
-    pub row: u32,
-    pub carried: u32,
-    pub place: u32,
+// The table, where no row stops a send of process p to q.
+pub fn send_row<'a>(t: &'a [u8], len: usize, p: usize, q: usize) -> Result<Table<'a>, Refusal>
+    ensures row { returned result ≡ step_row t.now p (send q) len }
+    ensures table { IfOk result (λ table. Holds table t.now p) }
+{
+    let table = pair_row(t, len, 8, p, q)?;
+    if is_full(&table, p, 1) {
+        return Err(Refusal::NoRecordsLeft);
+    }
+    Ok(table)
 }
 
 // The records that a receipt needs.
@@ -90,54 +89,37 @@ fn needed(forces: bool) -> usize
     if forces { 2 } else { 1 }
 }
 
-// Message k of q, whose section starts at word `from`, to p, whose section starts at word `at`.
-fn message_row(t: &[u8], e: usize, at: usize, from: usize, p: usize, q: usize, k: usize) -> Message
-    requires { (e ≤ 1024) × (q ≤ 16) × SectionIn t.now e at × SectionIn t.now e from × SendsLaid (word t.now) (from + heading) (word t.now from) }
-    ensures { (result.row ≡ first (receipt_rows_at t.now e at from p q k)) × (result.row ≡ 0 → Reads (section_of (word t.now) from) k result.carried result.place) }
+// The send of message k of q, where no row of the message stops its receipt by p.
+fn message_row(table: &Table, p: usize, q: usize, k: u32) -> Result<Sent, Refusal>
+    requires { (p < table.now.n) × (q < table.now.n) }
+    ensures row { returned result ≡ first (receipt_rows table.now.e (history (state_of table.now) p) (history (state_of table.now) q) p q k) }
+    ensures sent { IfOk result (Reads (history (state_of table.now) q) k) }
 {
-    let c = xdr::get_usize(t, at);
-    let m = scans::find_send(t, from + shape::HEADING, xdr::get_usize(t, from), k);
-    let carried = m.carried;
-    let place = m.place;
-    if !(m.found & ((m.to as usize) == p)) {
-        return Message {
-            row: 7,
-            carried,
-            place,
-        };
+    let sent = match scans::find_send(&table.records(q), k as usize) {
+        Some(sent) if sent.to as usize == p => sent,
+        _ => return Err(Refusal::NotSent),
+    };
+    if scans::has_receipt(&table.records(p), q as u32, k) {
+        return Err(Refusal::AlreadyReceived);
     }
-    if scans::has_receipt(t, at + shape::HEADING, c, q, k) {
-        return Message {
-            row: 8,
-            carried,
-            place,
-        };
+    if is_full(table, p, needed(table.number(p) < sent.carried)) {
+        return Err(Refusal::NoRecordsLeft);
     }
-    if e < c + needed(xdr::get(t, at + shape::NUMBER) < carried) {
-        return Message {
-            row: 9,
-            carried,
-            place,
-        };
-    }
-    Message {
-        row: 0,
-        carried,
-        place,
-    }
+    Ok(sent)
 }
 
-pub fn receipt_row(t: &[u8], len: usize, p: usize, q: usize, k: usize) -> Message
-    ensures { (result.row ≡ step_row t.now p (receipt q k) len) × (result.row ≡ 0 → Reads (history (decoded t.now) q) k result.carried result.place) }
+// The table and the send, where no row stops a receipt of message k of q by process p.
+pub fn receipt_row<'a>(
+    t: &'a [u8],
+    len: usize,
+    p: usize,
+    q: usize,
+    k: u32,
+) -> Result<(Table<'a>, Sent), Refusal>
+    ensures row { returned result ≡ step_row t.now p (receipt q k) len }
+    ensures sent { IfOk result (λ m. Holds m.0 t.now p × Reads (history (state_of m.0) q) k m.1) }
 {
-    let row = pair_row(t, len, 16, p, q);
-    if row != 0 {
-        return Message {
-            row,
-            carried: 0,
-            place: 0,
-        };
-    }
-    let e = xdr::get_usize(t, 1);
-    message_row(t, e, shape::start(e, p), shape::start(e, q), p, q, k)
+    let table = pair_row(t, len, 16, p, q)?;
+    let sent = message_row(&table, p, q, k)?;
+    Ok((table, sent))
 }

@@ -1,1 +1,2 @@
 pub mod Sends
+pub mod Receipts

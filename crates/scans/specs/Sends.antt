@@ -1,7 +1,13 @@
 -- What the search for a send promises.
-use Rattle.std.specs.Prelude.{◌≡◌, Bool, ◌&&◌, ℕ, leb, ltb}
+use Rattle.std.specs.Prelude.{◌≡◌, Bool, true, false, ◌&&◌, ℕ, leb, ltb, Option, Some, None}
 use Rattle.rules.specs.Records.{History, sends, carried, destination, send_place}
+use Rattle.scans.specs.declared.Sent.{Sent}
 
--- whether send k of the history h is there, the number that it carries, its destination and its place
-abbrev pub Answers : ℕ → History → Bool → ℕ → ℕ → ℕ → Type 0
-Answers k h found m d i = (found ≡ (ltb 0 k && leb k (sends h))) × (m ≡ carried h k) × (d ≡ destination h k) × (i ≡ send_place h k)
+-- send k of the history h is there
+abbrev pub there : ℕ → History → Bool
+there k h = ltb 0 k && leb k (sends h)
+
+-- if it is, the number that it carries, its destination and its place
+abbrev pub Answers : ℕ → History → Option Sent → Type 0
+Answers k h None = there k h ≡ false
+Answers k h (Some s) = (there k h ≡ true) × (s.carried ≡ carried h k) × (s.to ≡ destination h k) × (s.place ≡ send_place h k)

@@ -1,34 +1,16 @@
-use borrow.Author.Rules.{rules}
-use Prim.Native.Nat.{◌+◌, ◌*◌}
-use mathlib.Core.Path.{◌≡◌, refl, ap, ◌∙◌}
-use native.Mathlib.Nat.{mul-le-mul_right}
-use native.Mathlib.Omega.{arith}
-use lib.ListN.{length}
-use Rattle.xdr.proofs.Puts.{put_length, each_next}
-use Rattle.xdr.specs.Words.{word, put_each}
-use Rattle.rules.specs.Table.{heading, width, section_at}
+use mathlib.Core.Path.{refl, ap, ◌∙◌}
+use Rattle.xdr.specs.Words.{put_each}
+use Rattle.xdr.proofs.Puts.{each_next}
+use Rattle.rules.specs.Records.{history}
 use Rattle.rules.specs.Lines.{numbered}
+use Rattle.layout.specs.Tables.{state_of}
 use Rattle.lines.proofs.fill.Goals as goal
 
 pub loop-p-init : goal.loop-p-init
 unfolding put_each
-loop-p-init c = (refl, search rules, search rules)
-
-pub position_of-requires : goal.position_of-requires
-position_of-requires c = let a = c.args in
-    let p = c.loop-p.p in
-    let m = mul-le-mul_right {m = p + 1} {n = a.n} (heading + width * a.e) (omega arith) in
-    (omega arith, omega arith, omega arith, c.requires.4 p c.loop-p-test.true)
+loop-p-init c = refl
 
 pub loop-p-preserved : goal.loop-p-preserved
 loop-p-preserved c = let a = c.args in
-    let s = c.loop-p in (
-      each_next a.area.now (λ q. numbered a.m (section_at (word a.t.now) a.e q)) s.p s.invariant.0 c.put.ensures
-          c.position_of.ensures,
-      search rules,
-      ap length c.put.ensures ∙ put_length s.area s.p
-          c.position_of.result ∙ s.invariant.2,
-    )
-
-pub returns : goal.returns
-returns c = let h : c.loop-p.p ≡ c.args.n = omega arith in cc
+    each_next a.area.now (λ q. numbered a.m (history (state_of a.table.now) q)) c.loop-p.p c.loop-p.invariant c.put.ensures
+    (c.position.ensures.position ∙ ap (numbered a.m) c.records.ensures)

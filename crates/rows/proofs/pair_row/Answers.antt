@@ -1,23 +1,13 @@
-use native.Mathlib.Omega.{arith}
-use Rattle.rows.proofs.Rows.{acts, pair_act, pair_other, pair_none}
+use Rattle.std.proofs.Common.{◌||◌, [], ◌∷◌}
+use lib.Dec.{leb, eqb}
+use Rattle.xdr.specs.Words.{word}
+use Rattle.rules.specs.Calls.{row}
+use Rattle.rows.specs.Rows.{act_rows}
+use Rattle.layout.proofs.Refused.{handed_on}
 use Rattle.rows.proofs.pair_row.Goals as goal
 
-pub returns-then-row-ne0 : goal.returns-then-row-ne0
-returns-then-row-ne0 c = let a = c.args in
-    pair_act a.t.now a.len a.want a.p a.q c.act_row-row.ensures c.if-row-ne0.true
-
-pub get_usize-requires : goal.get_usize-requires
-get_usize-requires c = let a = c.args in
-    let w = acts a.t.now (λ i. omega (arith, c.type_inv.t i)) a.len a.want a.p
-    c.act_row-row.ensures c.if-row-ne0.false in
-    omega (arith, w.table.is.whole)
-
-pub returns-then-get_usize-q : goal.returns-then-get_usize-q
-returns-then-get_usize-q c = let a = c.args in
-    pair_other a.t.now a.len a.want a.p a.q c.act_row-row.ensures c.if-row-ne0.false
-    c.get_usize.ensures.0 c.if-get_usize-q.true
-
-pub returns : goal.returns
-returns c = let a = c.args in
-    pair_none a.t.now a.len a.want a.p a.q c.act_row-row.ensures c.if-row-ne0.false
-    c.get_usize.ensures.0 c.if-get_usize-q.false
+pub returns-in_err-table-clause-row : goal.returns-in_err-table-clause-row
+returns-in_err-table-clause-row c = let a = c.args in
+    let t = a.t.now in
+    handed_on c.from_residual.result _ c.from_residual.ensures.1 (act_rows t a.len a.want a.p)
+    (row 6 (leb (word t 0) a.q || eqb a.q a.p) ∷ []) tt c.in_err-table.ensures.row

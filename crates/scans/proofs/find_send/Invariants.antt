@@ -1,11 +1,7 @@
-use Prim.Native.Nat.{◌-◌, ◌≤◌, ◌<◌}
-use Rattle.xdr.specs.Words.{word}
+use Prim.Native.Nat.{◌<◌}
 use Rattle.rules.specs.Records.{sends}
-use Rattle.rules.specs.Table.{records_at}
+use Rattle.events.specs.Events.{first_of}
 use Rattle.scans.proofs.find_send.Given as goal
 
 abbrev pub invariant-loop-i : goal.invariant-loop-i
-invariant-loop-i l = (sends (records_at (word l.t) l.at l.i) < l.k) × (l.i ≤ l.c)
-
-abbrev pub decreases-loop-i : goal.decreases-loop-i
-decreases-loop-i l = l.c - l.i
+invariant-loop-i l = sends (first_of l.records l.i) < l.k

@@ -1,66 +1,28 @@
-use borrow.Author.Rules.{rules}
-use native.Mathlib.Omega.{arith}
+use Rattle.std.proofs.Common.{arith}
 use Rattle.rules.specs.Steps.{checkpoint}
-use Rattle.steps.proofs.Done.{refused, clear, ready, checkpoint_done}
+use Rattle.layout.proofs.Sections.{number_small, sends_small}
+use Rattle.steps.proofs.Done.{refused, ready, checkpoint_done}
 use Rattle.steps.proofs.checkpoint.Goals as goal
 
-pub returns-then-row-ne0 : goal.returns-then-row-ne0
-returns-then-row-ne0 c = let a = c.args in
-    let t = a.table.now in
-    refused t a.area.now a.p checkpoint c.checkpoint_row-row.ensures c.if-row-ne0.true
-
-pub get_usize-requires : goal.get_usize-requires
-get_usize-requires c = let a = c.args in
-    let t = a.table.now in
-    let P = clear t a.area.now (λ i. search rules) a.p checkpoint
-    c.checkpoint_row-row.ensures c.if-row-ne0.false in
-    omega (arith, P.table.is.whole)
-
-pub start-at-requires : goal.start-at-requires
-start-at-requires c = let a = c.args in
-    let t = a.table.now in
-    let P = clear t a.area.now (λ i. search rules) a.p checkpoint c.checkpoint_row-row.ensures
-    c.if-row-ne0.false in
-    omega (arith, P.accepted.within, P.table.range.processes, P.table.range.records)
-
-pub get-x-requires : goal.get-x-requires
-get-x-requires c = let a = c.args in
-    let t = a.table.now in
-    let R = ready t a.area.now (λ i. search rules) a.p checkpoint c.checkpoint_row-row.ensures
-    c.if-row-ne0.false c.get_usize.ensures.0 c.start-at.ensures.0 in
-    omega (arith, R.own.inside)
+pub returns-in_err-before : goal.returns-in_err-before
+returns-in_err-before c = let a = c.args in
+    refused c.from_residual.result _ c.from_residual.ensures.1 a.table.now a.area.now a.p checkpoint c.in_err-before.ensures.row
 
 pub overflow_add-x : goal.overflow_add-x
-overflow_add-x c = let a = c.args in
-    let t = a.table.now in
-    let R = ready t a.area.now (λ i. search rules) a.p checkpoint c.checkpoint_row-row.ensures
-    c.if-row-ne0.false c.get_usize.ensures.0 c.start-at.ensures.0 in
-    rw c.get-x.ensures (omega (arith, R.own.low))
+overflow_add-x c = let b = c.in_ok-before in omega (arith, c.number-x.ensures, number_small b.before c.args.p b.ensures.table.1)
 
-pub get-s-requires : goal.get-s-requires
-get-s-requires c = let a = c.args in
-    let t = a.table.now in
-    let R = ready t a.area.now (λ i. search rules) a.p checkpoint c.checkpoint_row-row.ensures
-    c.if-row-ne0.false c.get_usize.ensures.0 c.start-at.ensures.0 in
-    omega (arith, R.own.inside)
+pub overflow_cast-s : goal.overflow_cast-s
+overflow_cast-s c = let b = c.in_ok-before in omega (arith, c.sends-s.ensures, sends_small b.before c.args.p b.ensures.table.1)
 
 pub add_record-requires : goal.add_record-requires
-add_record-requires c = let a = c.args in
-    let t = a.table.now in
-    let R = ready t a.area.now (λ i. search rules) a.p checkpoint c.checkpoint_row-row.ensures
-    c.if-row-ne0.false c.get_usize.ensures.0 c.start-at.ensures.0 in
-    (R.own.near, omega (arith, R.own.short, R.own.most), omega (arith, R.own.inside, R.free))
-
-pub put-requires : goal.put-requires
-put-requires c = let a = c.args in
-    let t = a.table.now in
-    let R = ready t a.area.now (λ i. search rules) a.p checkpoint c.checkpoint_row-row.ensures
-    c.if-row-ne0.false c.get_usize.ensures.0 c.start-at.ensures.0 in
-    omega (arith, R.area)
+add_record-requires c = let b = c.in_ok-before in
+    let R = ready b.before b.ensures.table.0 c.args.area.now c.args.p c.start-at.ensures checkpoint b.ensures.row in (
+      omega (arith, R.own.near),
+      omega (arith, R.own.short, R.own.most),
+      omega (arith, R.free, R.own.inside),
+    )
 
 pub returns : goal.returns
-returns c = let a = c.args in
-    let t = a.table.now in
-    checkpoint_done t a.area.now (λ i. search rules)
-    a.p c.get_usize.ensures.0 c.start-at.ensures.0 c.get-x.ensures
-    c.get-s.ensures c.checkpoint_row-row.ensures c.if-row-ne0.false c.add_record.ensures c.put.ensures
+returns c = let b = c.in_ok-before in
+    checkpoint_done b.before b.ensures.table.0 c.args.area.now c.args.p c.start-at.ensures b.ensures.row c.number-x.ensures c.sends-s.ensures
+    c.words-basic.ensures c.add_record.ensures c.put.ensures

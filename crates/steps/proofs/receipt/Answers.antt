@@ -1,67 +1,25 @@
-use borrow.Author.Rules.{rules}
-use native.Mathlib.Omega.{arith}
+use Rattle.std.proofs.Common.{rules, arith}
 use Rattle.rules.specs.Steps.{receipt}
-use Rattle.store.specs.Added.{forces_at}
-use Rattle.steps.proofs.Done.{refused, clear, ready, receipt_room, one_most, receipt_done}
+use Rattle.steps.proofs.Done.{refused, ready, receipt_room, receipt_done}
 use Rattle.steps.proofs.receipt.Goals as goal
 
-pub returns-then-row-ne0 : goal.returns-then-row-ne0
-returns-then-row-ne0 c = let a = c.args in
-    let t = a.table.now in
-    refused t a.area.now a.p (receipt a.q a.k) c.receipt_row-m.ensures.0 c.if-row-ne0.true
-
-pub get_usize-requires : goal.get_usize-requires
-get_usize-requires c = let a = c.args in
-    let t = a.table.now in
-    let P = clear t a.area.now (λ i. search rules) a.p (receipt a.q a.k)
-    c.receipt_row-m.ensures.0 c.if-row-ne0.false in
-    omega (arith, P.table.is.whole)
-
-pub start-at-requires : goal.start-at-requires
-start-at-requires c = let a = c.args in
-    let t = a.table.now in
-    let P = clear t a.area.now (λ i. search rules) a.p (receipt a.q a.k)
-    c.receipt_row-m.ensures.0 c.if-row-ne0.false in
-    omega (arith, P.accepted.within, P.table.range.processes, P.table.range.records)
-
-pub get-c-requires : goal.get-c-requires
-get-c-requires c = let a = c.args in
-    let t = a.table.now in
-    let R = ready t a.area.now (λ i. search rules) a.p (receipt a.q a.k)
-    c.receipt_row-m.ensures.0 c.if-row-ne0.false c.get_usize.ensures.0 c.start-at.ensures.0 in
-    omega (arith, R.own.inside)
+pub returns-in_err-before : goal.returns-in_err-before
+returns-in_err-before c = let a = c.args in
+    refused c.from_residual.result _ c.from_residual.ensures.1 a.table.now a.area.now a.p (receipt a.q a.k) c.in_err-before.ensures.row
 
 pub add_receipt-forced-requires : goal.add_receipt-forced-requires
-add_receipt-forced-requires c = let a = c.args in
-    let t = a.table.now in
-    let R = ready t a.area.now (λ i. search rules) a.p (receipt a.q a.k)
-    c.receipt_row-m.ensures.0 c.if-row-ne0.false c.get_usize.ensures.0 c.start-at.ensures.0 in (
-      R.own.near,
+add_receipt-forced-requires c = let b = c.in_ok-before in
+    let a = c.args in
+    let M = b.ensures.sent in
+    let R = ready b.before M.0.0 a.area.now a.p c.start-at.ensures (receipt a.q a.k) b.ensures.row in (
+      omega (arith, R.own.near),
       omega (arith, R.own.short, R.own.most),
-      receipt_room t a.area.now a.p a.q a.k
-          c.get_usize.result c.start-at.result c.receipt_row-m.result.carried R
-          (c.receipt_row-m.ensures.1 c.if-row-ne0.false).0,
+      receipt_room b.before M.0.0 a.area.now a.p c.start-at.ensures a.q a.k b.ensures.row b.sent M.1,
     )
 
-pub place_behind-received_at-requires : goal.place_behind-received_at-requires
-place_behind-received_at-requires c = let a = c.args in
-    let t = a.table.now in
-    let R = ready t a.area.now (λ i. search rules) a.p (receipt a.q a.k)
-    c.receipt_row-m.ensures.0 c.if-row-ne0.false c.get_usize.ensures.0 c.start-at.ensures.0 in
-    let y = one_most (forces_at t c.start-at.result c.receipt_row-m.result.carried) c.add_receipt-forced.ensures.0 in
-    (rw c.get-c.ensures (omega (arith, R.own.short, R.own.most)), omega (arith, y))
-
-pub put_four-requires : goal.put_four-requires
-put_four-requires c = let a = c.args in
-    let t = a.table.now in
-    let R = ready t a.area.now (λ i. search rules) a.p (receipt a.q a.k)
-    c.receipt_row-m.ensures.0 c.if-row-ne0.false c.get_usize.ensures.0 c.start-at.ensures.0 in
-    omega (arith, R.area)
-
 pub returns : goal.returns
-returns c = let a = c.args in
-    let t = a.table.now in
-    receipt_done t a.area.now (λ i. search rules)
-    a.p a.q a.k c.get_usize.ensures.0 c.start-at.ensures.0 c.receipt_row-m.ensures.0 c.if-row-ne0.false
-    (c.receipt_row-m.ensures.1 c.if-row-ne0.false) c.get-c.ensures c.add_receipt-forced.ensures.0 c.place_behind-received_at.ensures
-    c.add_receipt-forced.ensures.1 c.put_four.ensures
+returns c = let b = c.in_ok-before in
+    let a = c.args in
+    let M = b.ensures.sent in
+    receipt_done b.before M.0.0 a.area.now a.p c.start-at.ensures a.q a.k b.ensures.row b.sent M.1 c.count-c.ensures
+    c.add_receipt-forced.ensures.forces c.place_behind-received_at.ensures (search rules) c.add_receipt-forced.ensures.stored c.put_all.ensures

@@ -10,12 +10,12 @@ loop-i-init g c = refl
 pub returns-then-test : goal.returns-then-test
 returns-then-test g c = let r = c.args.self.now in
     let o = g.T.Test.passes c.args.test.now in
-    first_found (word r.bytes.now) r.at o c.loop-i-test.true c.loop-i.invariant (ap o (sym c.get.ensures) ∙ sym c.test.ensures ∙ c.if-test.true)
+    first_found (word r.bytes.now) r.at o c.loop-i-test.true c.loop-i.invariant (ap o (sym c.get.ensures.event) ∙ sym c.test.ensures ∙ c.if-test.true)
 
 pub loop-i-preserved : goal.loop-i-preserved
 loop-i-preserved g c = let r = c.args.self.now in
     let o = g.T.Test.passes c.args.test.now in
-    none_next (word r.bytes.now) r.at o c.loop-i.i c.loop-i.invariant (ap o (sym c.get.ensures) ∙ sym c.test.ensures ∙ c.if-test.false)
+    none_next (word r.bytes.now) r.at o c.loop-i.i c.loop-i.invariant (ap o (sym c.get.ensures.event) ∙ sym c.test.ensures ∙ c.if-test.false)
 
 pub returns : goal.returns
 returns g c = let r = c.args.self.now in
