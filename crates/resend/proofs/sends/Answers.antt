@@ -1,4 +1,4 @@
-use Rattle.std.proofs.Common.{rules, arith}
+use Rattle.std.proofs.Common.{arith}
 use Rattle.notes.proofs.Places.{sends_short}
 use Rattle.resend.proofs.Outcomes.{one_more}
 use Rattle.resend.proofs.sends.Goals as goal
