@@ -9,7 +9,7 @@ use native.Mathlib.Numerals.{add-one}
 use native.Mathlib.Omega.{arith}
 use native.Mathlib.Decide.{dec_lt, ℕ_discrete}
 use lib.Dec.{ltb, eqb}
-use lib.ListN.{length, get_or, set, replicate, length-set}
+use lib.ListN.{length, get_or, replicate, length-set}
 use lib.Seq.{get_or-set_other, get_or-set_same}
 use borrow.Author.Tests.{ne_eqb, lt-ltb, le-ltb, eq-eqb}
 use Rattle.xdr.specs.Words.{word}
@@ -21,12 +21,8 @@ use Rattle.cuts.specs.Notes.{span_of, Inside, noted, struck}
 use Rattle.cuts.proofs.Notes.{struck_at, struck_length, noted_sent, noted_other, noted_length}
 use Rattle.notes.specs.declared.cut.Cut.{Cut}
 use Rattle.notes.specs.declared.Senders.{Senders}
-use Rattle.notes.specs.Noted.{state_at, places, sent_below, none_from, Group, left, Left, Noted}
+use Rattle.notes.specs.Noted.{state_at, places, sent_below, none_from, grown, Group, left, Left, Noted}
 use Rattle.notes.proofs.Places.{part_legal, part_length}
-
--- one sender more, of which k sends are noted behind the others
-abbrev pub grown : Senders → ℕ → Senders
-grown g k = record { from = g.from; next = g.next + 1; many = g.many + k; spans = set g.spans g.next (record { start = g.many; count = k }) }
 
 blank : (m q : ℕ) → get_or {A = Span} (replicate m (record { start = 0; count = 0 })) q (record { start = 0; count = 0 }) ≡ record { start = 0; count = 0 }
 blank zero q = refl
@@ -197,26 +193,28 @@ none_noted c q p le to room = record {
 
 module _ (c : Cut) (g : Senders) (to : List ℕ) where
   -- one sender more is noted
-  pub note_turn : Noted c 0 g to → g.next < c.table.n → g.many + word c.positions.now g.next < length to
-      → {h : History} → h ≡ part (state_at c) (places c) g.next → {u : List ℕ} {k : ℕ} → u ≡ noted g.many h to → k ≡ sends h
-      → Noted c 0 (grown g k) u × (length u ≡ length to)
-  note_turn N lt room i {u} {k} v x =
+  pub note_turn : Noted c 0 g to → {p : ℕ} → g.next ≡ p → p < c.table.n → g.many + word c.positions.now p < length to
+      → {h : History} → h ≡ part (state_at c) (places c) p → {u : List ℕ} {k : ℕ} → u ≡ noted g.many h to → k ≡ sends h
+      → {w : Senders} → w ≡ grown g k → Noted c 0 w u × (length u ≡ length to)
+  note_turn N {p} at lt room i {u} {k} v x {w} y =
       let h = part (state_at c) (places c) g.next in
-      let e : u ≡ noted g.many h to = v ∙ ap (λ (y : History). noted g.many y to) i in
-      let f : k ≡ sends h = x ∙ ap sends i in
+      let j = i ∙ ap (part (state_at c) (places c)) (sym at) in
+      let e : u ≡ noted g.many h to = v ∙ ap (λ (z : History). noted g.many z to) j in
+      let f : k ≡ sends h = x ∙ ap sends j in
       let few = c.table.laid.3 in
-      let short = part_length c g.next lt in
+      let there : g.next < c.table.n = omega arith in
+      let short = part_length c g.next there ∙ ap (word c.positions.now) at in
       let l = sends_length h in
       let len = ap length e ∙ noted_length g.many to h in
       let most = N.most in (
-        record {
+        subst (λ (z : Senders). Noted c 0 z u) (sym y) (record {
           group = group_next (state_at c) (places c) g N.group N.order (omega arith) f;
           notes = subst (Left (state_at c) (places c) 0 (grown g k)) (sym e)
-              (notes_next (state_at c) (places c) g N.group c.table.n c.table.e few N.order lt (part_legal c g.next) to (omega arith) N.notes k);
+              (notes_next (state_at c) (places c) g N.group c.table.n c.table.e few N.order there (part_legal c g.next) to (omega arith) N.notes k);
           order = let o = N.order in omega arith;
           most = omega arith;
           room = omega arith;
-        },
+        }),
         len,
       )
 

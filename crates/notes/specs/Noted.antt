@@ -1,5 +1,5 @@
 -- What is noted of the messages in transit at a cut.
-use Rattle.std.specs.Prelude.{◌≡◌, cond, ◌&&◌, List, ℕ, zero, suc, ◌+◌, ◌≤◌, ◌<◌, ltb, length, get_or, replicate}
+use Rattle.std.specs.Prelude.{◌≡◌, cond, ◌&&◌, List, ℕ, zero, suc, ◌+◌, ◌≤◌, ◌<◌, ltb, length, get_or, set, replicate}
 use Rattle.xdr.specs.Words.{words}
 use Rattle.rules.specs.Records.{State, sends, destination, has_receipt}
 use Rattle.rules.specs.Lines.{part}
@@ -29,6 +29,10 @@ sent_below s cut (suc q) = sent_below s cut q + sends (part s cut q)
 -- none from process q on
 abbrev pub none_from : ℕ → Senders
 none_from q = record { from = q; next = q; many = 0; spans = replicate 16 (record { start = 0; count = 0 }) }
+
+-- one more, of which k sends are noted behind the others
+abbrev pub grown : Senders → ℕ → Senders
+grown g k = record { from = g.from; next = g.next + 1; many = g.many + k; spans = set g.spans g.next (record { start = g.many; count = k }) }
 
 -- The processes from `from` on that come before `next` are noted, with all their sends inside the cut, of which there are `many`: from
 -- which index on each is noted, and how many sends. No other process is noted.

@@ -8,7 +8,7 @@
 mod cut;
 
 ghost use Rattle.std.specs.Prelude.{◌≡◌, ◌<◌, length};
-ghost use Rattle.notes.specs.Noted.{HasRoom, none_from, Noted};
+ghost use Rattle.notes.specs.Noted.{HasRoom, none_from, grown, Noted};
 
 pub use cut::Cut;
 use cuts::Span;
@@ -35,6 +35,19 @@ impl Senders {
             spans: [Span { start: 0, count: 0 }; 16],
         }
     }
+
+    // One more, of which this many sends are noted behind the others.
+    fn add(&mut self, count: usize)
+        requires { (self.old.next < 16) × (self.old.many < 65536) × (count < 65536) }
+        ensures { self.new ≡ grown self.old count }
+    {
+        self.spans[self.next] = Span {
+            start: self.many as u16,
+            count: count as u16,
+        };
+        self.many += count;
+        self.next += 1;
+    }
 }
 
 // Notes where the sends in the cut go, of as many processes from q on as there is room for: no process has more of them than records in
@@ -44,15 +57,13 @@ fn note_sends(cut: &Cut, q: usize, to: &mut [u8]) -> Senders
     ensures { Noted cut.now 0 result to.new × (result.from ≡ q) × (q < result.next) × (length to.new ≡ length to.old) }
 {
     let mut senders = Senders::none(q);
-    while senders.next < cut.table.n && senders.many + cut.position(senders.next) < to.len() {
-        let start = senders.many;
-        let count = cuts::note(&cut.part(senders.next), start, to);
-        senders.spans[senders.next] = Span {
-            start: start as u16,
-            count: count as u16,
-        };
-        senders.many += count;
-        senders.next += 1;
+    for p in q..cut.table.n {
+        let many = senders.many;
+        if to.len() <= many + cut.position(p) {
+            break;
+        }
+        let count = cuts::note(&cut.part(p), many, to);
+        senders.add(count);
     }
     senders
 }
