@@ -103,21 +103,20 @@ pub fn first_unsent(t: &[u8], at: usize, c: usize, e: usize, p: u8, to: &[u8]) -
     c
 }
 
-// Notes from an index on where the sends go; how many there are.
+// Notes from an index on where the sends go; how many there are. What is noted of a record is one value, and what is counted another, so
+// that no kind has a branch of its own.
 pub fn note(records: &Records, from: usize, to: &mut [u8]) -> usize
     requires { from + records.now.count < length to.old }
     ensures { (to.new ≡ noted from (held records.now) to.old) × (result ≡ sends_of (held records.now)) × (result ≤ records.now.count) }
 {
     let mut k = 0;
     for i in 0..records.count {
-        let next = from + k + 1;
-        match records.get(i) {
-            Event::Sent { to: q, .. } => {
-                to[next] = (q % 32) as u8;
-                k += 1;
-            }
-            _ => to[next] = 16,
-        }
+        let (note, more) = match records.get(i) {
+            Event::Sent { to: q, .. } => ((q % 32) as u8, 1),
+            _ => (16, 0),
+        };
+        to[from + k + 1] = note;
+        k += more;
     }
     k
 }
@@ -141,17 +140,19 @@ fn place(spans: &[Span; 16], q: u32, k: u32) -> usize
     }
 }
 
-// Strikes from the notes what process p has received: where p is noted for one of its receipts, 16 is noted instead.
+// Strikes from the notes what process p has received: where p is noted for one of its receipts, 16 is noted instead. A record of another
+// kind leaves its note as it is, so that no kind has a branch of its own.
 pub fn strike(records: &Records, spans: &[Span; 16], p: u8, to: &mut [u8])
     requires { Inside spans.now (length to.old) }
     ensures { to.new ≡ struck spans.now p (held records.now) to.old }
 {
     for i in 0..records.count {
-        if let Event::Received { from, k, .. } = records.get(i) {
-            let x = place(spans, from, k);
-            if to[x] == p {
-                to[x] = 16;
-            }
-        }
+        let (receipt, q, k) = match records.get(i) {
+            Event::Received { from, k, .. } => (true, from, k),
+            _ => (false, 0, 0),
+        };
+        let x = place(spans, q, k);
+        let d = to[x];
+        to[x] = if receipt & (d == p) { 16 } else { d };
     }
 }

@@ -45,14 +45,23 @@ fn answer(cut: &Cut, area: &mut [u8], to: &mut [u8]) -> Result<(), Refusal>
     Ok(())
 }
 
+// With room for N notes, in a frame of its own.
+#[inline(never)]
+fn with_room<const N: usize>(cut: &Cut, area: &mut [u8]) -> Result<(), Refusal>
+    requires { HasRoom cut.now N }
+    ensures { outcome_with (returned result) cut.now.table.bytes.now area.new cut.now.positions.now ≡ resend_on cut.now.table.bytes.now cut.now.positions.now area.old }
+{
+    answer(cut, area, &mut [0; N])
+}
+
 // A small table does not pay for the room that the largest needs: 3,072 notes, so that any three processes fit.
 pub fn resend(table: &[u8], positions: &[u8], area: &mut [u8]) -> Result<(), Refusal>
     ensures { outcome_with (returned result) table.now area.new positions.now ≡ resend_on table.now positions.now area.old }
 {
     let cut = Cut::at(Table::read(table)?, positions)?;
     if cut.table.n * cut.table.e < 256 {
-        answer(&cut, area, &mut [0; 256])
+        with_room::<256>(&cut, area)
     } else {
-        answer(&cut, area, &mut [0; 3073])
+        with_room::<3073>(&cut, area)
     }
 }
