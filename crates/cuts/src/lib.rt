@@ -133,11 +133,7 @@ fn place(spans: &[Span; 16], q: u32, k: u32) -> usize
     ensures { result ≡ place_of spans.now q k }
 {
     let span = spans[(q % 16) as usize];
-    if k <= span.count as u32 {
-        span.start as usize + k as usize
-    } else {
-        0
-    }
+    shape::pick(k <= span.count as u32, span.start as usize + k as usize, 0)
 }
 
 // Strikes from the notes what process p has received: where p is noted for one of its receipts, 16 is noted instead. A record of another
@@ -153,6 +149,6 @@ pub fn strike(records: &Records, spans: &[Span; 16], p: u8, to: &mut [u8])
         };
         let x = place(spans, q, k);
         let d = to[x];
-        to[x] = if receipt & (d == p) { 16 } else { d };
+        to[x] = shape::pick(receipt & (d == p), 16, d as usize) as u8;
     }
 }

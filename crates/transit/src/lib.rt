@@ -45,6 +45,7 @@ impl Walk {
     }
 
     // Notes senders from process q on, where those that are noted are passed.
+    #[inline(never)]
     fn note(&mut self, cut: &Cut, to: &mut [u8])
         requires { Stands cut.now self.old to.old × (self.old.q < cut.now.table.n) × HasRoom cut.now (length to.old) }
         ensures { Stands cut.now self.new to.new × (self.new.q < self.new.senders.next) × (self.new.q ≡ self.old.q) × (passed cut.now self.new ≡ passed cut.now self.old) × (length to.new ≡ length to.old) }
@@ -54,11 +55,13 @@ impl Walk {
         }
     }
 
-    // The next message; `to` is room for notes.
+    // The next message; `to` is room for notes. It is small beside the notes, which are made once for many messages.
+    #[inline(always)]
     fn next(&mut self, cut: &Cut, to: &mut [u8]) -> Option<Message>
         requires { Stands cut.now self.old to.old × HasRoom cut.now (length to.old) }
         ensures { Stands cut.now self.new to.new × Passes cut.now self.old result self.new × Few cut.now self.new × (length to.new ≡ length to.old) }
     {
+        // By hand: q and k stay in the walk from one message to the next.
         while self.q < cut.table.n {
             self.note(cut, to);
             let span = self.senders.spans[self.q];
