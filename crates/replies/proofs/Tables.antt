@@ -17,7 +17,7 @@ use Rattle.decimal.specs.Output.{Page, Writes}
 use Rattle.decimal.proofs.Texts.{writes_as}
 use Rattle.replies.specs.declared.State.TheVariants.{Running}
 use Rattle.replies.specs.Replies.{table_room, Replies}
-use Rattle.layout.proofs.Tables.{fresh_done}
+use Rattle.layout.proofs.Rows.{fresh_done}
 use Rattle.std.specs.Prelude.{Result}
 use Rattle.answers.specs.declared.Refused.{Refused}
 use Rattle.answers.specs.Shows.{Shows, answer_room, shown, count_of, told_line}
