@@ -50,6 +50,7 @@ pub fn back_to(records: &Records, k: usize, r: usize) -> Part
 {
     let mut i = records.count;
     let mut sends = k;
+    // By while: it goes down until a test holds, and counts the sends that it passes.
     while (r < i) | !saved(records, i) {
         i -= 1;
         sends -= sent(records.get(i));

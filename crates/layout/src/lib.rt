@@ -69,8 +69,8 @@ impl<'a> Table<'a> {
         if bytes.len() < 8 {
             return Err(Refusal::BadTableLength);
         }
-        let n = xdr::get_usize(bytes, 0);
-        let e = xdr::get_usize(bytes, 1);
+        let n = xdr::get(bytes, 0) as usize;
+        let e = xdr::get(bytes, 1) as usize;
         if !shape::in_range(n, e) {
             return Err(Refusal::BadDimensions);
         }
@@ -96,7 +96,7 @@ impl<'a> Table<'a> {
         requires { p < self.now.n }
         ensures { result ≡ length (history (state_of self.now) p) }
     {
-        xdr::get_usize(self.bytes, self.start(p))
+        xdr::get(self.bytes, self.start(p)) as usize
     }
 
     // Its number.
@@ -112,7 +112,7 @@ impl<'a> Table<'a> {
         requires { p < self.now.n }
         ensures { result ≡ sends (history (state_of self.now) p) }
     {
-        xdr::get_usize(self.bytes, self.start(p) + shape::SENDS)
+        xdr::get(self.bytes, self.start(p) + shape::SENDS) as usize
     }
 
     // Its records.

@@ -35,7 +35,7 @@ impl<'a> Cut<'a> {
             return Err(Refusal::BadPositions);
         }
         for p in 0..table.n {
-            if table.count(p) < xdr::get_usize(positions, p) {
+            if table.count(p) < xdr::get(positions, p) as usize {
                 return Err(Refusal::BadPositions);
             }
         }
@@ -47,7 +47,7 @@ impl<'a> Cut<'a> {
         requires { p < self.now.table.n }
         ensures { (result ≡ word self.now.positions.now p) × (result ≤ self.now.table.e) }
     {
-        xdr::get_usize(self.positions, p)
+        xdr::get(self.positions, p) as usize
     }
 
     // Those records.

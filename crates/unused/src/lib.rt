@@ -24,7 +24,7 @@ fn rear(t: &[u8], e: usize, at: usize) -> bool
     requires { (e ≤ 1024) × (4 * (at + heading + width * e) ≤ length t.now) }
     ensures { result ≡ rear_ok e (word t.now) at }
 {
-    let c = xdr::get_usize(t, at);
+    let c = xdr::get(t, at) as usize;
     if e < c {
         return false;
     }

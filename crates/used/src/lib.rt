@@ -45,7 +45,7 @@ struct Seen {
     sends: usize,
 }
 
-// Where the lists by kind have this kind.
+// Where the lists by kind have this kind. By number, not an enum: of a record that is of no kind it is not known yet.
 fn kind_index(kind: usize) -> usize
     ensures { (result ≡ kind_index kind) × (result < 5) }
 {
@@ -85,9 +85,9 @@ fn used(t: &[u8], p: usize, at: usize, c: usize, limits: &Limits) -> Seen
     };
     for i in 0..c {
         let w = at + shape::WIDTH * i;
-        let kind = xdr::get_usize(t, w);
+        let kind = xdr::get(t, w) as usize;
         let pair = xdr::pair(t, w + shape::A);
-        let carried = xdr::get_usize(t, w + shape::CARRIED);
+        let carried = xdr::get(t, w + shape::CARRIED) as usize;
         seen = next(seen, limits, own, kind, pair, carried);
     }
     seen
@@ -98,7 +98,7 @@ fn front(t: &[u8], p: usize, at: usize, limits: &Limits) -> bool
     requires { (p < limits.now.n) × (4 * (at + heading + width * limits.now.e) ≤ length t.now) × (word t.now at ≤ limits.now.e) }
     ensures { result ≡ front_ok limits.now.n limits.now.e (word t.now) p at }
 {
-    let c = xdr::get_usize(t, at);
+    let c = xdr::get(t, at) as usize;
     let seen = used(t, p, at + shape::HEADING, c, limits);
     (seen.marks & TOP_TOP) | (xdr::pair(t, at + shape::NUMBER) ^ (seen.last | seen.sends)) == 0
 }

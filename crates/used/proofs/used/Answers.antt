@@ -11,18 +11,18 @@ loop-i-preserved c = let a = c.args in
     let l = a.limits.now in
     let i = c.loop-i.i in
     let inv = c.loop-i.invariant in
-    let kind = c.get_usize-kind in
+    let kind = c.get-kind in
     let pair = c.pair-pair in
-    let fourth = c.get_usize-carried in
+    let fourth = c.get-carried in
     let two : a.at + width * i + 1 + 1 ≡ a.at + width * i + 2 = omega arith in
     let read = rw two at pair.ensures.0 in
     let low = rw two at pair.ensures.2 in
     let next = c.next-seen.ensures in
     let most = counts_most (kind_index kind.result) in (
-      clear_next l.n l.e a.p (word a.t.now) a.at i c.loop-i.seen.marks c.loop-i.seen.sends kind.result pair.result kind.ensures.0
+      clear_next l.n l.e a.p (word a.t.now) a.at i c.loop-i.seen.marks c.loop-i.seen.sends kind.result pair.result kind.ensures
           read pair.ensures.1 low l.by_kind.0 l.by_kind.1 refl l.few.0 l.few.1 c.requires.0 (omega arith) inv.0 inv.1
-          fourth.ensures.0 (omega (arith, fourth.ensures.0, fourth.ensures.1)) next.0,
-      found_next l.n l.e a.p (word a.t.now) a.at i c.loop-i.seen.marks c.loop-i.seen.sends kind.result pair.result kind.ensures.0
+          fourth.ensures (omega (arith, fourth.ensures)) next.0,
+      found_next l.n l.e a.p (word a.t.now) a.at i c.loop-i.seen.marks c.loop-i.seen.sends kind.result pair.result kind.ensures
           read pair.ensures.1 low l.by_kind.0 l.by_kind.1 refl l.few.0 l.few.1 c.requires.0 (omega arith) inv.0 inv.1 next.1
           next.2,
       omega (arith, next.2, most),

@@ -1,5 +1,5 @@
-use Rattle.std.proofs.Common.{rules, arith, ◌≡◌, ◌/◌, ◌%◌}
-use mathlib.Core.Path.{ap, ◌∙◌}
+use Rattle.std.proofs.Common.{arith, ◌≡◌}
+use mathlib.Core.Path.{◌∙◌}
 use Rattle.xdr.specs.Words.{turned, put_word}
 use Rattle.xdr.proofs.Words.{swapped, turned_bytes, top_byte_of}
 use Rattle.xdr.proofs.put.Goals as goal

@@ -3,10 +3,10 @@ use mathlib.Core.Path.{◌∙◌}
 use Rattle.layout.proofs.Sections.{section}
 use Rattle.layout.proofs.Table.count.Goals as goal
 
-pub get_usize-requires : goal.get_usize-requires
-get_usize-requires c = let H = section c.args.self.now c.args.p c.requires c.start.ensures in
+pub get-requires : goal.get-requires
+get-requires c = let H = section c.args.self.now c.args.p c.requires c.start.ensures in
     omega (arith, H.inside)
 
 pub returns : goal.returns
 returns c = let H = section c.args.self.now c.args.p c.requires c.start.ensures in
-    c.get_usize.ensures.0 ∙ H.count
+    c.get.ensures ∙ H.count

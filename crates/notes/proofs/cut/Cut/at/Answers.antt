@@ -9,16 +9,16 @@ use Rattle.layout.specs.Tables.{state_of}
 use Rattle.notes.proofs.Places.{above_next, above_found, all_within}
 use Rattle.notes.proofs.cut.Cut.at.Goals as goal
 
-pub returns-then-count-get_usize-clause-row : goal.returns-then-count-get_usize-clause-row
-returns-then-count-get_usize-clause-row c = let a = c.args in
+pub returns-then-count-get-clause-row : goal.returns-then-count-get-clause-row
+returns-then-count-get-clause-row c = let a = c.args in
     rw (
       eq-eqb (length a.positions.now) (4 * a.table.n) c.if-positions-table.false,
-      above_found (state_of a.table) a.table.n a.positions.now c.if-positions-table.false c.loop-p.p c.loop-p-test.true c.count.ensures c.get_usize.ensures.0 c.if-count-get_usize.true,
+      above_found (state_of a.table) a.table.n a.positions.now c.if-positions-table.false c.loop-p.p c.loop-p-test.true c.count.ensures c.get.ensures c.if-count-get.true,
     )
 
 pub loop-p-preserved : goal.loop-p-preserved
 loop-p-preserved c = let a = c.args in
-    above_next (state_of a.table) a.table.n a.positions.now c.if-positions-table.false c.loop-p.p c.loop-p-test.true c.count.ensures c.get_usize.ensures.0 c.if-count-get_usize.false c.loop-p.invariant
+    above_next (state_of a.table) a.table.n a.positions.now c.if-positions-table.false c.loop-p.p c.loop-p-test.true c.count.ensures c.get.ensures c.if-count-get.false c.loop-p.invariant
 
 pub invariant_of-result : goal.invariant_of-result
 invariant_of-result c = let a = c.args in

@@ -4,4 +4,4 @@ use Rattle.notes.proofs.cut.Cut.position.Goals as goal
 
 pub returns : goal.returns
 returns c = let small = position_small c.args.self.now c.args.p c.requires in
-    (c.get_usize.ensures.0, omega arith)
+    (c.get.ensures, omega arith)
