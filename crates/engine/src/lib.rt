@@ -28,7 +28,13 @@ pub fn ckpt_send(table: &mut [u8], area: &mut [u8], p: u32, q: u32) -> Result<()
     steps::send(table, area, p, q)
 }
 
-pub fn ckpt_receipt(table: &mut [u8], area: &mut [u8], p: u32, q: u32, k: u32) -> Result<(), Refusal>
+pub fn ckpt_receipt(
+    table: &mut [u8],
+    area: &mut [u8],
+    p: u32,
+    q: u32,
+    k: u32,
+) -> Result<(), Refusal>
     ensures { outcome (returned result) table.new area.new ≡ step_on table.old area.old p (receipt q k) }
 {
     steps::receipt(table, area, p, q, k)

@@ -1,5 +1,5 @@
 -- What the words of records say.
-use Rattle.std.specs.Prelude.{◌≡◌, List, [], ◌∷◌, ℕ, suc, ◌+◌, ◌*◌}
+use Rattle.std.specs.Prelude.{◌≡◌, List, [], ◌∷◌, ℕ, ◌+◌, ◌*◌}
 use Rattle.rules.specs.Records as records
 use Rattle.rules.specs.Table.{width, event_at, records_at}
 use Rattle.xdr.specs.Words.{word}
@@ -25,12 +25,12 @@ first_of r i = records_at (word r.bytes.now) r.at i
 abbrev pub held : Records → records.History
 held r = first_of r r.count
 
--- what the words of a record after those of h say besides: a send's own number and what it carries
-abbrev pub Tells : records.History → Event → Type 0
-Tells h (event.Sent q k c) = (k ≡ suc (records.sends h)) × (c ≡ records.number h)
-Tells h (event.Basic m) = Unit {0}
-Tells h (event.Forced m) = Unit {0}
-Tells h (event.Received q k c) = Unit {0}
+-- what a send's words at word i say besides: its own number and what it carries
+abbrev pub Spells : (ℕ → ℕ) → ℕ → Event → Type 0
+Spells w i (event.Sent q k c) = (k ≡ w (i + 2)) × (c ≡ w (i + 3))
+Spells w i (event.Basic m) = Unit {0}
+Spells w i (event.Forced m) = Unit {0}
+Spells w i (event.Received q k c) = Unit {0}
 
 -- its words
 abbrev pub words_of : Event → List ℕ

@@ -4,7 +4,6 @@
 ghost use Rattle.std.specs.Prelude.{◌≡◌, ◌+◌, ◌*◌, ◌≤◌, ◌<◌, length};
 ghost use Rattle.xdr.specs.Words.{word};
 ghost use Rattle.rules.specs.Table.{width};
-ghost use Rattle.tables.specs.Sections.{SendsLaid};
 ghost use Rattle.rules.specs.Lines.{upto};
 ghost use Rattle.rules.specs.FailureLine.{any, before};
 
@@ -33,7 +32,7 @@ impl Event {
     }
 }
 
-// `count` records of a lent table, from word `at` on. Those that are sends are numbered in order and carry the number before them.
+// `count` records of a lent table, from word `at` on.
 #[derive(Clone, Copy, Drop)]
 pub struct Records<'a> {
     pub bytes: &'a [u8],
@@ -41,7 +40,6 @@ pub struct Records<'a> {
     pub count: usize,
     ghost few: { count ≤ 1024 },
     ghost within: { 4 * (at + width * count) ≤ length bytes.now },
-    ghost laid: { SendsLaid (word bytes.now) at count },
 }
 
 // A test of a record.
@@ -58,13 +56,13 @@ pub trait Test {
 }
 
 impl<'a> Records<'a> {
-    ghost use Rattle.events.specs.Events.{meant, record_of, first_of, Tells, held};
+    ghost use Rattle.events.specs.Events.{meant, record_of, Spells, held};
 
     // The record at index i.
     pub fn get(&self, i: usize) -> Event
         requires { i < self.now.count }
         ensures event { meant result ≡ record_of self.now i }
-        ensures sent { Tells (first_of self.now i) result }
+        ensures sent { Spells (word self.now.bytes.now) (self.now.at + width * i) result }
     {
         let at = self.at + shape::WIDTH * i;
         let a = xdr::get(self.bytes, at + shape::A);

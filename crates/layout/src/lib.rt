@@ -59,6 +59,7 @@ impl<'a> Table<'a> {
     ghost use Rattle.std.specs.Prelude.{IfOk};
     ghost use Rattle.rules.specs.Records.{history, number, sends};
     ghost use Rattle.events.specs.Events.{held};
+    ghost use Rattle.tables.specs.Sections.{SendsLaid};
     ghost use Rattle.layout.specs.Tables.{state_of};
 
     // The table, or the first of its own rows that is met.
@@ -115,10 +116,11 @@ impl<'a> Table<'a> {
         xdr::get(self.bytes, self.start(p) + shape::SENDS) as usize
     }
 
-    // Its records.
+    // Its records; the sends among them are numbered in order, and carry the number before them.
     pub fn records(&self, p: usize) -> Records<'a>
         requires { p < self.now.n }
-        ensures { held result ≡ history (state_of self.now) p }
+        ensures held { held result ≡ history (state_of self.now) p }
+        ensures sends { SendsLaid (word result.bytes.now) result.at result.count }
     {
         let at = self.start(p) + shape::HEADING;
         Records {

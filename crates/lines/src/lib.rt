@@ -13,7 +13,7 @@ use layout::Table;
 use refusals::Refusal;
 
 // Writes the positions of all processes.
-fn fill(table: &Table, area: &mut [u8], m: u32)
+fn fill(table: &Table, area: &mut [u8], m: usize)
     requires { length area.old ≡ 4 * table.now.n }
     ensures { area.new ≡ put_each area.old (λ p. numbered m (history (state_of table.now) p)) table.now.n }
 {
@@ -38,6 +38,6 @@ pub fn line(table: &[u8], area: &mut [u8], number: u32) -> Result<(), Refusal>
     ensures { outcome (returned result) table.now area.new ≡ line_on table.now area.old number }
 {
     let lines = line_row(table, area.len())?;
-    fill(&lines, area, number);
+    fill(&lines, area, number as usize);
     Ok(())
 }

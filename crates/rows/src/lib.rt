@@ -90,16 +90,16 @@ fn needed(forces: bool) -> usize
 }
 
 // The send of message k of q, where no row of the message stops its receipt by p.
-fn message_row(table: &Table, p: usize, q: usize, k: u32) -> Result<Sent, Refusal>
+fn message_row(table: &Table, p: usize, q: usize, k: usize) -> Result<Sent, Refusal>
     requires { (p < table.now.n) × (q < table.now.n) }
     ensures row { returned result ≡ first (receipt_rows table.now.e (history (state_of table.now) p) (history (state_of table.now) q) p q k) }
     ensures sent { IfOk result (Reads (history (state_of table.now) q) k) }
 {
-    let sent = match scans::find_send(&table.records(q), k as usize) {
+    let sent = match scans::find_send(&table.records(q), k) {
         Some(sent) if sent.to as usize == p => sent,
         _ => return Err(Refusal::NotSent),
     };
-    if scans::has_receipt(&table.records(p), q as u32, k) {
+    if scans::has_receipt(&table.records(p), q, k) {
         return Err(Refusal::AlreadyReceived);
     }
     if is_full(table, p, needed(table.number(p) < sent.carried)) {
@@ -114,7 +114,7 @@ pub fn receipt_row<'a>(
     len: usize,
     p: usize,
     q: usize,
-    k: u32,
+    k: usize,
 ) -> Result<(Table<'a>, Sent), Refusal>
     ensures row { returned result ≡ step_row t.now p (receipt q k) len }
     ensures sent { IfOk result (λ m. Holds m.0 t.now p × Reads (history (state_of m.0) q) k m.1) }

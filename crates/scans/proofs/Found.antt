@@ -1,19 +1,22 @@
 -- What is found among a process's records.
 use mathlib.Core.Path.{◌≡◌, refl, sym, ap, subst, ◌∙◌}
 use mathlib.Core.Logic.{◌≢◌, ◌⊎◌, inl, inr}
-use mathlib.Core.Bool.{Bool, true, false, cond, ◌&&◌, ◌||◌, or-true}
+use mathlib.Core.Bool.{Bool, true, false, cond, ◌&&◌, ◌||◌, or-true, false≢true}
 use mathlib.Core.List.{[], ◌∷◌}
 use Prim.Native.Nat.{ℕ, suc, ◌+◌, ◌*◌, ◌≤◌, ◌<◌, zero-le}
 use native.Mathlib.Numerals.{add-one}
 use native.Mathlib.Omega.{arith}
 use lib.Dec.{eqb, leb, ltb}
 use lib.ListN.{length}
-use borrow.Author.Tests.{lt-ltb, le-ltb, le-leb, lt-leb}
+use borrow.Author.Tests.{lt-ltb, le-ltb, le-leb, lt-leb, eqb-true}
 use Rattle.std.specs.Prelude.{Some}
 use Rattle.rules.specs.Records.{Event, basic, forced, sent, received, History, number, sends, of_send, has_receipt}
 use Rattle.rules.specs.Table.{width, event_at, records_at}
 use Rattle.rules.specs.Lines.{at_least, numbered}
 use Rattle.rules.specs.FailureLine.{any, before}
+use Rattle.events.specs.declared.Event.TheVariants as event
+use Rattle.events.specs.Events.{Spells}
+use Rattle.tables.specs.Sections.{SendsLaid}
 use Rattle.scans.specs.Receipts.{is_receipt}
 use Rattle.scans.specs.Sends.{there, Answers}
 use Rattle.scans.specs.declared.Sent.{Sent}
@@ -23,7 +26,7 @@ use Rattle.records.proofs.Cuts.{before_all}
 use Rattle.records.proofs.Histories.{sends_older, of_send_at, carried_at}
 use Rattle.records.proofs.NumberedLines.{reached, numbered_cons, numbered_le}
 use Rattle.tables.proofs.WellLaid.{records_length}
-use Rattle.tables.proofs.Scans.{first_older, sends_at_most}
+use Rattle.tables.proofs.Scans.{event as of_event, first_older, sends_at_most}
 use Rattle.events.proofs.First.{any_count}
 
 -- ---- the position of the first checkpoint with number N or more
@@ -94,14 +97,37 @@ send_later w at i k l = let m = sends_at_most w at i in omega arith
 pub send_fewer : (w : ℕ → ℕ) (at : ℕ) {i c k : ℕ} → c ≤ i → sends (records_at w at i) < k → sends (records_at w at c) < k
 send_fewer w at {i} {c} l few = let m = sends_older (first_older w at c i l) in omega arith
 
+abbrev is_sent : Event → Bool
+is_sent (basic m) = false
+is_sent (forced m) = false
+is_sent (sent q) = true
+is_sent (received q k c) = false
+
+-- a send's kind
+sent_kind : (w : ℕ → ℕ) (i : ℕ) {q : ℕ} → sent q ≡ event_at w i → w i ≡ 3
+sent_kind w i e = go (test (eqb (w i) 4)) (test (eqb (w i) 3)) (ap is_sent e ∙ of_event is_sent w i refl)
+  where
+    go : Test (eqb (w i) 4) → Test (eqb (w i) 3) → true ≡ cond (eqb (w i) 4) false (cond (eqb (w i) 3) true false) → w i ≡ 3
+    go (passes x) y z = absurd (false≢true (sym (rw x at z)))
+    go (fails x) (passes y) z = eqb-true (w i) 3 y
+    go (fails x) (fails y) z = absurd (false≢true (sym (rw (x, y) at z)))
+
 -- record i, before which there are less than k sends
-module _ (w : ℕ → ℕ) (at i k : ℕ) {c : ℕ} (l : i < c) (few : sends (records_at w at i) < k) where
+module _ (w : ℕ → ℕ) (at i k : ℕ) {c : ℕ} (l : i < c) (few : sends (records_at w at i) < k) (laid : SendsLaid w at c) where
   abbrev h : History
   h = records_at w at i
 
-  pub send_found : {q b m : ℕ} → sent q ≡ event_at w (at + width * i) → (b ≡ suc (sends h)) × (m ≡ number h) → b ≡ k
+  abbrev here : ℕ
+  here = at + width * i
+
+  -- a send's number and what it carries, by its words
+  numbered_as : {q b m : ℕ} → sent q ≡ event_at w here → Spells w here (event.Sent q b m) → (b ≡ suc (sends h)) × (m ≡ number h)
+  numbered_as e r = let L = laid i l (sent_kind w here e) in (r.0 ∙ L.0, r.1 ∙ L.1)
+
+  pub send_found : {q b m : ℕ} → sent q ≡ event_at w here → Spells w here (event.Sent q b m) → b ≡ k
       → Answers k (records_at w at c) (Some (record { carried = m; to = q; place = i + 1 }))
-  send_found {q} e r z =
+  send_found {q} {b} {m} e s z =
+      let r = numbered_as {q = q} {b = b} {m = m} e s in
       let rank : k ≡ suc (sends h) = sym z ∙ r.0 in
       let o = subst (λ (x : Event). Older (x ∷ h) (records_at w at c)) (sym e) (first_older w at (suc i) c (omega arith)) in
       let few : suc (sends h) ≤ sends (records_at w at c) = sends_older o in (

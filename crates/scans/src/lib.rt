@@ -2,7 +2,9 @@
 #![tactic(auto)]
 
 ghost use Rattle.std.specs.Prelude.{◌≡◌, ◌≤◌};
+ghost use Rattle.xdr.specs.Words.{word};
 ghost use Rattle.rules.specs.Records.{has_receipt};
+ghost use Rattle.tables.specs.Sections.{SendsLaid};
 ghost use Rattle.rules.specs.Lines.{at_least, numbered};
 ghost use Rattle.events.specs.Events.{held};
 ghost use Rattle.scans.specs.Sends.{Answers};
@@ -18,8 +20,9 @@ pub struct Sent {
     pub place: u32,
 }
 
-// Send k, if it is there. The first k - 1 records have less than k sends, so the search begins behind them.
+// Send k, if it is there. In a well laid table a send's own words tell its number and what it carries. The first k - 1 records have less than k sends, so the search begins behind them.
 pub fn find_send(records: &Records, k: usize) -> Option<Sent>
+    requires { SendsLaid (word records.now.bytes.now) records.now.at records.now.count }
     ensures { Answers k (held records.now) result }
 {
     if k == 0 {
@@ -43,20 +46,20 @@ pub fn find_send(records: &Records, k: usize) -> Option<Sent>
 // Tests for a receipt of send k of process q.
 #[derive(Drop)]
 struct ReceiptOf {
-    q: u32,
-    k: u32,
+    q: usize,
+    k: usize,
 }
 
 impl Test for ReceiptOf {
     ghost passes = { λ s. is_receipt s.q s.k };
 
     fn test(&self, event: Event) -> bool {
-        matches!(event, Event::Received { from, k, .. } if from == self.q && k == self.k)
+        matches!(event, Event::Received { from, k, .. } if from as usize == self.q && k as usize == self.k)
     }
 }
 
 // Whether there is a receipt of send k of process q.
-pub fn has_receipt(records: &Records, q: u32, k: u32) -> bool
+pub fn has_receipt(records: &Records, q: usize, k: usize) -> bool
     ensures { result ≡ has_receipt (held records.now) q k }
 {
     records.any(&ReceiptOf { q, k })
@@ -65,7 +68,7 @@ pub fn has_receipt(records: &Records, q: u32, k: u32) -> bool
 // Tests for a checkpoint with this number or more.
 #[derive(Drop)]
 struct AtLeast {
-    number: u32,
+    number: usize,
 }
 
 impl Test for AtLeast {
@@ -73,14 +76,14 @@ impl Test for AtLeast {
 
     fn test(&self, event: Event) -> bool {
         match event {
-            Event::Basic { number } | Event::Forced { number } => self.number <= number,
+            Event::Basic { number } | Event::Forced { number } => self.number <= number as usize,
             Event::Sent { .. } | Event::Received { .. } => false,
         }
     }
 }
 
 // The position of the first checkpoint with number m or more, else the count of records.
-pub fn position(records: &Records, m: u32) -> usize
+pub fn position(records: &Records, m: usize) -> usize
     ensures position { result ≡ numbered m (held records.now) }
     ensures within { result ≤ records.now.count }
 {

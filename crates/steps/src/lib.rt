@@ -51,7 +51,7 @@ fn place_behind(c: u32, forced: bool) -> u32
 pub fn receipt(table: &mut [u8], area: &mut [u8], p: u32, q: u32, k: u32) -> Result<(), Refusal>
     ensures { outcome (returned result) table.new area.new ≡ step_on table.old area.old p (receipt_call q k) }
 {
-    let (before, sent) = rows::receipt_row(table, area.len(), p as usize, q as usize, k)?;
+    let (before, sent) = rows::receipt_row(table, area.len(), p as usize, q as usize, k as usize)?;
     let at = before.start(p as usize);
     let c = before.count(p as usize) as u32;
     let carried = sent.carried;

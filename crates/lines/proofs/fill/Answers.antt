@@ -13,4 +13,4 @@ loop-p-init c = refl
 pub loop-p-preserved : goal.loop-p-preserved
 loop-p-preserved c = let a = c.args in
     each_next a.area.now (λ q. numbered a.m (history (state_of a.table.now) q)) c.loop-p.p c.loop-p.invariant c.put.ensures
-    (c.position.ensures.position ∙ ap (numbered a.m) c.records.ensures)
+    (c.position.ensures.position ∙ ap (numbered a.m) c.records.ensures.held)

@@ -12,7 +12,7 @@ loop-i-init c = let r = c.args.records.now in
 
 pub returns-in-loop-i : goal.returns-in-loop-i
 returns-in-loop-i c = let r = c.args.records.now in
-    send_found (word r.bytes.now) r.at c.loop-i.i c.args.k c.loop-i-test.true c.loop-i.invariant
+    send_found (word r.bytes.now) r.at c.loop-i.i c.args.k c.loop-i-test.true c.loop-i.invariant c.requires
     c.in-Sent.ensures.event c.in-Sent.ensures.sent (search rules)
 
 pub returns : goal.returns
