@@ -1,4 +1,4 @@
-// Scans of one process's records for a failure line.
+// Scans of one process's records for a failure line, and for the messages to send again.
 #![tactic(auto)]
 
 ghost use Rattle.std.specs.Prelude.{◌≡◌, ◌+◌, ◌≤◌, ◌<◌, true, eqb, [], ◌∷◌, length};
@@ -120,8 +120,8 @@ fn note_of(event: Event) -> u8
     }
 }
 
-// Notes from an index on where the sends go; how many there are. Every record is written at the next send's place: no branch has to foretell
-// its kind.
+// Notes from an index on where the sends go; how many there are. Every record is written at the next send's place, so that the loop needs no
+// branch.
 pub fn note(records: &Records, from: usize, to: &mut [u8]) -> usize
     requires { from + records.now.count < length to.old }
     ensures { (to.new ≡ noted from (held records.now) to.old) × (result ≡ sends_of (held records.now)) × (result ≤ records.now.count) }
@@ -150,8 +150,8 @@ fn place(spans: &[Span; 16], q: u32, k: u32) -> usize
     shape::pick(k <= span.count as u32, span.start as usize + k as usize, 0)
 }
 
-// Strikes from the notes what process p has received: where p is noted for one of its receipts, 16 is noted instead. A record of another
-// kind leaves its note as it is, so that no kind has a branch of its own.
+// Strikes from the notes what process p has received: where p is noted for one of its receipts, 16 is noted instead. What is no
+// receipt leaves its note as it is, so that the loop needs no branch.
 pub fn strike(records: &Records, spans: &[Span; 16], p: u8, to: &mut [u8])
     requires { Inside spans.now (length to.old) }
     ensures { to.new ≡ struck spans.now p (held records.now) to.old }

@@ -9,6 +9,7 @@ pub use output::Output;
 
 mod output;
 
+// A form that document 01 names for this place.
 const POWERS: [u32; 10] = [
     1, 10, 100, 1000, 10000, 100000, 1000000, 10000000, 100000000, 1000000000,
 ];

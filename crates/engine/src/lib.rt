@@ -1,5 +1,5 @@
 // The calls that engine_c exports (include/ckpt.h). Each is held to its outcome under documents 01 and 02, for all bytes, lengths and
-// numbers.
+// numbers. They are gathered here under the exports' names, for callers in Rattle.
 #![tactic(auto)]
 
 ghost use Rattle.std.specs.Prelude.{◌≡◌, []};

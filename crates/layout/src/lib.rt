@@ -1,9 +1,9 @@
 // The lent table: whether it is well laid, its rows, and fresh tables (document 01, "The table" and rows 1 to 3).
 #![tactic(auto)]
 
-ghost use Rattle.std.specs.Prelude.{◌≡◌, ℕ, ◌*◌, ◌≤◌, ◌<◌, length, get_or, []};
+ghost use Rattle.std.specs.Prelude.{◌≡◌, ℕ, ◌+◌, ◌*◌, ◌≤◌, ◌<◌, length, get_or, []};
 ghost use Rattle.xdr.specs.Words.{word};
-ghost use Rattle.rules.specs.Table.{start as start_of, sections_ok};
+ghost use Rattle.rules.specs.Table.{heading, start as start_of, sections_ok};
 ghost use Rattle.rules.specs.Calls.{outcome, first, table_rows, fresh_on};
 ghost use Rattle.layout.specs.Laid.{Laid};
 ghost use Rattle.refusals.specs.Refusals.{returned};
@@ -12,7 +12,8 @@ use events::Records;
 use refusals::Refusal;
 use used::Limits;
 
-// What the used records of a table of n processes with room for e records each are tested with.
+// What the used records of a table of n processes with room for e records each are tested with. By n and e: a `Table` is made of what is
+// found well laid.
 fn limits(n: usize, e: usize) -> Limits
     requires { (n ≤ 16) × (e ≤ 1024) }
     ensures { (result.n ≡ n) × (result.e ≡ e) }
@@ -92,12 +93,20 @@ impl<'a> Table<'a> {
         shape::start(self.e, p)
     }
 
+    // Word i of process p's heading.
+    fn heading_word(&self, p: usize, i: usize) -> u32
+        requires { (p < self.now.n) × (i < heading) }
+        ensures { result ≡ word self.now.bytes.now (start_of self.now.e p + i) }
+    {
+        xdr::get(self.bytes, self.start(p) + i)
+    }
+
     // How many records process p has.
     pub fn count(&self, p: usize) -> usize
         requires { p < self.now.n }
         ensures { result ≡ length (history (state_of self.now) p) }
     {
-        xdr::get(self.bytes, self.start(p)) as usize
+        self.heading_word(p, 0) as usize
     }
 
     // Its number.
@@ -105,7 +114,7 @@ impl<'a> Table<'a> {
         requires { p < self.now.n }
         ensures { result ≡ number (history (state_of self.now) p) }
     {
-        xdr::get(self.bytes, self.start(p) + shape::NUMBER)
+        self.heading_word(p, shape::NUMBER)
     }
 
     // Its count of sends.
@@ -113,7 +122,7 @@ impl<'a> Table<'a> {
         requires { p < self.now.n }
         ensures { result ≡ sends (history (state_of self.now) p) }
     {
-        xdr::get(self.bytes, self.start(p) + shape::SENDS) as usize
+        self.heading_word(p, shape::SENDS) as usize
     }
 
     // Its records; the sends among them are numbered in order, and carry the number before them.

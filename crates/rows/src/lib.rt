@@ -13,7 +13,7 @@ use layout::Table;
 use refusals::Refusal;
 use scans::Sent;
 
-// The lent table, where an area that wants `want` bytes and the acting process pass too.
+// The lent table, where the area of a call that wants `want` bytes and the acting process pass too.
 fn act_row<'a>(t: &'a [u8], len: usize, want: usize, p: usize) -> Result<Table<'a>, Refusal>
     ensures row { returned result ≡ first (act_rows t.now len want p) }
     ensures table { IfOk result (λ table. Holds table t.now p) }

@@ -43,7 +43,7 @@ pub fn start(e: usize, p: usize) -> usize
     2 + p * (HEADING + WIDTH * e)
 }
 
-// x where t holds, else y. Both are computed before the choice: an `if` in the loops that call it made branches that cost them speed.
+// x where t holds, else y. Both are computed before the choice: where the loops that call it said `if`, they had branches.
 pub fn pick(t: bool, x: usize, y: usize) -> usize
     ensures { result ≡ cond t x y }
 {

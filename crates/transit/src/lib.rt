@@ -25,8 +25,7 @@ fn first_left(notes: &[u8]) -> Option<usize>
 }
 
 // A walk through the messages in transit, by sender and then send number: the first k sends of process q are passed, and all of those
-// before it. The senders are noted some at a time. No Iterator: it would hold the room for notes as a `&mut`, beside which a struct can keep
-// no fact of what is noted there.
+// before it. The senders are noted some at a time.
 #[derive(Clone, Copy, Drop)]
 struct Walk {
     senders: Senders,

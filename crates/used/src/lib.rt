@@ -45,7 +45,7 @@ struct Seen {
     sends: usize,
 }
 
-// Where the lists by kind have this kind. By number, not an enum: of a record that is of no kind it is not known yet.
+// Where the lists by kind have this kind. By number, not an enum: a table that is not well laid has others.
 fn kind_index(kind: usize) -> usize
     ensures { (result ≡ kind_index kind) × (result < 5) }
 {

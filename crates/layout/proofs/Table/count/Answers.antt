@@ -1,12 +1,10 @@
-use Rattle.std.proofs.Common.{arith}
-use mathlib.Core.Path.{◌∙◌}
+use mathlib.Core.Path.{refl, ap, ◌∙◌}
+use native.Mathlib.Nat.{add-zero}
+use Rattle.xdr.specs.Words.{word}
+use Rattle.rules.specs.Table.{start}
 use Rattle.layout.proofs.Sections.{section}
 use Rattle.layout.proofs.Table.count.Goals as goal
 
-pub get-requires : goal.get-requires
-get-requires c = let H = section c.args.self.now c.args.p c.requires c.start.ensures in
-    omega (arith, H.inside)
-
 pub returns : goal.returns
-returns c = let H = section c.args.self.now c.args.p c.requires c.start.ensures in
-    c.get.ensures ∙ H.count
+returns c = let t = c.args.self.now in
+    c.heading_word.ensures ∙ ap (word t.bytes.now) (add-zero (start t.e c.args.p)) ∙ (section t c.args.p c.requires refl).count
