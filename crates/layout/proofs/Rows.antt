@@ -3,9 +3,9 @@ use mathlib.Core.Path.{◌≡◌}
 use mathlib.Core.Logic.{◌≢◌}
 use mathlib.Core.List.{List, [], ◌∷◌}
 use mathlib.Core.Bool.{true, false}
-use Prim.Native.Nat.{ℕ, ◌≤◌, ◌<◌}
+use Prim.Native.Nat.{ℕ, ◌≤◌}
 use lib.ListN.{length, replicate}
-use borrow.Author.Tests.{lt-ltb, le-ltb, eq-eqb, ne_eqb}
+use borrow.Author.Tests.{le-ltb, eq-eqb, ne_eqb}
 use Rattle.xdr.specs.Words.{word, put_words}
 use Rattle.rules.specs.Table.{in_range, size, sections_ok, well_laid}
 use Rattle.rules.specs.Calls.{outcome, first, table_rows, fresh_on}
@@ -15,16 +15,7 @@ use Rattle.tables.proofs.Fresh.{fresh_layout}
 -- ---- the rows of a table, from what was read of it
 
 module _ (t : List ℕ) where
-  pub row_short : length t < 8 → 2 ≡ first (table_rows t)
-  row_short l = rw (lt-ltb (length t) 8 l)
-
   module _ {n e : ℕ} (l : 8 ≤ length t) (a : n ≡ word t 0) (b : e ≡ word t 1) where
-    pub row_range : in_range n e ≡ false → 1 ≡ first (table_rows t)
-    row_range r = rw (le-ltb (length t) 8 l, ← a, ← b, r)
-
-    pub row_size : in_range n e ≡ true → length t ≢ size n e → 2 ≡ first (table_rows t)
-    row_size r z = rw (le-ltb (length t) 8 l, ← a, ← b, r, ne_eqb (length t) (size n e) z)
-
     pub row_laid : in_range n e ≡ true → length t ≡ size n e → sections_ok n e (word t) n ≡ false → 3 ≡ first (table_rows t)
     unfolding well_laid
     row_laid r z o = rw (le-ltb (length t) 8 l, ← a, ← b, r, eq-eqb (length t) (size n e) z, o)

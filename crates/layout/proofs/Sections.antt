@@ -1,10 +1,10 @@
 -- The sections of a table whose rows are passed.
-use mathlib.Core.Path.{◌≡◌, refl, sym, ◌∙◌}
-use Prim.Native.Nat.{ℕ, ◌≤◌, ◌<◌}
+use mathlib.Core.Path.{◌≡◌, sym, ◌∙◌}
+use Prim.Native.Nat.{ℕ, ◌<◌}
 use native.Mathlib.Omega.{arith}
 use lib.ListN.{length}
 use Rattle.xdr.specs.Words.{word}
-use Rattle.rules.specs.Records.{history, number, sends}
+use Rattle.rules.specs.Records.{history}
 use Rattle.rules.specs.Table.{start}
 use Rattle.rules.specs.Calls.{table_rows}
 use Rattle.records.proofs.Rows.{none_met}
@@ -27,14 +27,3 @@ module _ (t : Table) where
 
   pub section : (p : ℕ) → p < t.n → {at : ℕ} → at ≡ start t.e p → Head t.bytes.now p t.e at
   section p lt i = head t.bytes.now is_valid p (let e = t.laid.1 in omega arith) t.laid.2 i
-
-  -- no process has more records than any table
-  pub count_small : (p : ℕ) → p < t.n → length (history (state_of t) p) ≤ 1024
-  count_small p lt = let H = section p lt refl in omega (arith, H.count, H.short, H.most)
-
-  -- nor a greater number, nor more sends
-  pub number_small : (p : ℕ) → p < t.n → number (history (state_of t) p) ≤ 16384
-  number_small p lt = let H = section p lt refl in omega (arith, H.current, H.low)
-
-  pub sends_small : (p : ℕ) → p < t.n → sends (history (state_of t) p) ≤ 1024
-  sends_small p lt = let H = section p lt refl in omega (arith, H.sent, H.few)

@@ -1,45 +1,47 @@
 // The unused records of a table, which are zeros (document 01, "The table").
 #![tactic(auto)]
 
-ghost use Rattle.std.specs.Prelude.{◌≡◌, ◌+◌, ◌-◌, ◌*◌, ◌≤◌, length};
+ghost use Rattle.std.specs.Prelude.{◌≡◌, ◌*◌, ◌≤◌, ◌<◌, length};
 ghost use Rattle.xdr.specs.Words.{word};
-ghost use Rattle.rules.specs.Table.{heading, width, start as start_of, zeros_at};
+ghost use Rattle.rules.specs.Table.{width, start as start_of, zeros_at};
 ghost use Rattle.tables.specs.Sections.{every, rear_ok};
 
-// Whether the records from the c-th to the e-th, which start at word `at`, are unused. Their words are joined, two at a time, so that none
-// has a branch of its own.
-fn is_unused(t: &[u8], at: usize, c: usize, e: usize) -> bool
-    requires { (c ≤ e) × (e ≤ 1024) × (4 * (at + width * e) ≤ length t.now) }
-    ensures { result ≡ zeros_at (word t.now) (at + width * c) (width * (e - c)) }
+use events::Records;
+use shape::Dims;
+
+// Whether records are unused. Their words are joined, two at a time, so that none has a branch of its own.
+fn is_unused(records: &Records) -> bool
+    ensures { result ≡ zeros_at (word records.now.bytes.now) records.now.at (width * records.now.count) }
 {
     let mut joined = 0;
-    for i in 2 * c..2 * e {
-        joined |= xdr::raw_pair(t, at + 2 * i);
+    for i in 0..2 * records.count {
+        joined |= xdr::raw_pair(records.bytes, records.at + 2 * i);
     }
     joined == 0
 }
 
-// Whether the section that starts at word `at` has at most e used records, and zeros behind them.
-fn rear(t: &[u8], e: usize, at: usize) -> bool
-    requires { (e ≤ 1024) × (4 * (at + heading + width * e) ≤ length t.now) }
-    ensures { result ≡ rear_ok e (word t.now) at }
+// Whether section p has at most e used records, and zeros behind them.
+fn rear(t: &[u8], dims: Dims, p: usize) -> bool
+    requires { (p < dims.n) × (4 * start_of dims.e dims.n ≤ length t.now) }
+    ensures { result ≡ rear_ok dims.e (word t.now) (start_of dims.e p) }
 {
+    let at = dims.start(p);
     let c = xdr::get(t, at) as usize;
-    if e < c {
+    if dims.e < c {
         return false;
     }
-    is_unused(t, at + shape::HEADING, c, e)
+    let behind = Records {
+        bytes: t,
+        at: at + shape::HEADING + shape::WIDTH * c,
+        count: dims.e - c,
+    };
+    is_unused(&behind)
 }
 
 // Whether that holds of all n sections.
-pub fn rears(t: &[u8], n: usize, e: usize) -> bool
-    requires { (n ≤ 16) × (e ≤ 1024) × (4 * start_of e n ≤ length t.now) }
-    ensures { result ≡ every (λ p. rear_ok e (word t.now) (start_of e p)) n }
+pub fn rears(t: &[u8], dims: Dims) -> bool
+    requires { 4 * start_of dims.e dims.n ≤ length t.now }
+    ensures { result ≡ every (λ p. rear_ok dims.e (word t.now) (start_of dims.e p)) dims.n }
 {
-    for p in 0..n {
-        if !rear(t, e, shape::start(e, p)) {
-            return false;
-        }
-    }
-    true
+    (0..dims.n).all(|p| rear(t, dims, p))
 }

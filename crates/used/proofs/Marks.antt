@@ -379,13 +379,6 @@ module _ (n e p : ℕ) (h : History) (a b : ℕ) (nl : n ≤ 16) (el : e ≤ 102
 
 -- ---- one record more
 
-pub kind_below : (kind : ℕ) → kind_index kind < 5
-kind_below kind = go (test (ltb kind 5))
-  where
-    go : Test (ltb kind 5) → kind_index kind < 5
-    go (passes h) = rw h (ltb-true kind 5 h)
-    go (fails h) = rw h (omega arith)
-
 pub counts_most : (i : ℕ) → get_or counts i 0 ≤ 1
 counts_most zero = omega arith
 counts_most (suc zero) = omega arith

@@ -1,22 +1,31 @@
-use Rattle.std.proofs.Common.{rules}
-use mathlib.Core.Path.{sym, ◌∙◌}
+use mathlib.Core.List.{append-nil}
+use mathlib.Core.Path.{◌≡◌, refl, sym, ap, ◌∙◌}
+use native.Mathlib.Omega.{arith}
+use lib.ListN.{length, replicate, set}
+use lib.Seq.{drop-length}
+use borrow.Author.Fill.{fill_none, fill_more}
 use Rattle.xdr.proofs.Puts.{two_puts}
 use Rattle.layout.proofs.Rows.{fresh_range, fresh_size, fresh_done}
 use Rattle.layout.proofs.fresh.Goals as goal
 
-pub returns-then-not-in_range : goal.returns-then-not-in_range
-returns-then-not-in_range c = let a = c.args in
-    fresh_range a.t.now a.n a.e
-    (sym c.in_range.ensures ∙ c.if-not-in_range.true)
+pub returns-in_default : goal.returns-in_default
+returns-in_default c = let a = c.args in fresh_range a.t.now a.n a.e c.in_default.ensures
 
-pub returns-then-t-table_size : goal.returns-then-t-table_size
-returns-then-t-table_size c = let a = c.args in
-    fresh_size a.t.now a.n a.e
-    (sym c.in_range.ensures ∙ c.if-not-in_range.false)
-    (λ z. c.if-t-table_size.true (z ∙ sym c.table_size.ensures))
+pub returns-then-t-size : goal.returns-then-t-size
+returns-then-t-size c = let a = c.args in
+    let d = c.in-Some.ensures in
+    fresh_size a.t.now a.n a.e d.0 (λ z. c.if-t-size.true (z ∙ sym (rw (d.1, d.2) at c.size.ensures)))
+
+pub loop-byte-init : goal.loop-byte-init
+loop-byte-init c = fill_none _ 0
+
+pub loop-byte-preserved : goal.loop-byte-preserved
+loop-byte-preserved c = ap (λ l. set l c.loop-byte.byte-index 0) c.loop-byte.invariant ∙ fill_more c.loop-byte.byte-index 0 c.args.t.now (omega arith)
 
 pub returns : goal.returns
 returns c = let a = c.args in
-    fresh_done a.t.now a.n a.e (sym c.in_range.ensures ∙ c.if-not-in_range.false)
-    (c.if-t-table_size.false ∙ c.table_size.ensures) (c.fill.ensures.after (λ y e. e))
-    (two_puts c.fill.new.self a.n a.e c.put.ensures c.put-2.ensures)
+    let d = c.in-Some.ensures in
+    let all : c.loop-byte.byte-index ≡ length a.t.now = omega arith in
+    let zeros : c.loop-byte.t ≡ replicate (length a.t.now) 0 = c.loop-byte.invariant ∙ rw (all, drop-length, append-nil) refl in
+    fresh_done a.t.now a.n a.e d.0 (c.if-t-size.false ∙ rw (d.1, d.2) at c.size.ensures) zeros
+    (two_puts c.loop-byte.t a.n a.e c.put.ensures c.put-2.ensures)

@@ -5,8 +5,8 @@ use Rattle.layout.proofs.sections_ok.Goals as goal
 
 pub returns-then-rears : goal.returns-then-rears
 returns-then-rears c = let a = c.args in
-    sections_fronts a.n a.e (word a.t.now) (sym c.rears.ensures ∙ c.if-rears.true) (rw (c.limits-limits.ensures.0, c.limits-limits.ensures.1) at c.fronts.ensures)
+    sections_fronts a.dims.n a.dims.e (word a.t.now) (sym c.rears.ensures ∙ c.if-rears.true) (rw c.limits-limits.ensures at c.fronts.ensures)
 
 pub returns-else-rears : goal.returns-else-rears
 returns-else-rears c = let a = c.args in
-    c.if-rears.false ∙ sections_rears a.n a.e (word a.t.now) (sym c.rears.ensures ∙ c.if-rears.false)
+    c.if-rears.false ∙ sections_rears a.dims.n a.dims.e (word a.t.now) (sym c.rears.ensures ∙ c.if-rears.false)

@@ -5,6 +5,8 @@ use Rattle.used.proofs.front.Goals as goal
 
 pub returns : goal.returns
 returns c = let a = c.args in
-    let two : a.at + 1 + 1 ≡ a.at + 2 = omega arith in
-    front_fold a.limits.now.e (word a.t.now) c.get-c.ensures a.limits.now.n a.p c.used-seen.result.marks (omega arith) c.used-seen.ensures.0
-    c.used-seen.ensures.1 (omega (arith, c.used-seen.ensures.2)) (rw two at c.pair.ensures.2) (rw two at c.pair.ensures.0)
+    let d = a.limits.now.dims in
+    let at = c.start-at.result in
+    let two : at + 1 + 1 ≡ at + 2 = omega arith in
+    rw (← c.start-at.ensures.0) (front_fold d.e (word a.t.now) c.get.ensures d.n a.p c.used-seen.result.marks (omega arith) c.used-seen.ensures.0
+    c.used-seen.ensures.1 (omega (arith, c.used-seen.ensures.2)) (rw two at c.pair.ensures.2) (rw two at c.pair.ensures.0))

@@ -1,4 +1,4 @@
-use Rattle.std.proofs.Common.{◌/◌, arith, refl}
+use Rattle.std.proofs.Common.{◌/◌, arith}
 use Rattle.used.specs.Marks.{upper}
 use Rattle.used.proofs.Marks.{marks_next, sends_next}
 use Rattle.used.proofs.next.Goals as goal

@@ -8,17 +8,18 @@ use Rattle.layout.proofs.Sections.{section}
 use Rattle.layout.proofs.Table.records.Goals as goal
 
 pub invariant_of-result : goal.invariant_of-result
-invariant_of-result c = let H = section c.args.self.now c.args.p c.requires c.start-at.ensures in
-    let n = c.count.ensures in
-    let k = H.count in
-    record { few = omega (arith, H.short, H.most); within = omega (arith, H.short, H.inside) }
+invariant_of-result c = let S = c.section-section.ensures in
+    let H = section c.args.self.now c.args.p c.requires S.0 in
+    record { few = c.section-section.result.few; within = omega (arith, S.1, H.count, H.short, H.inside) }
 
 pub returns-clause-held : goal.returns-clause-held
 returns-clause-held c = let t = c.args.self.now in
-    let H = section t c.args.p c.requires c.start-at.ensures in
-    ap (records_at (word t.bytes.now) (c.start-at.result + heading)) (c.count.ensures ∙ sym H.count) ∙ H.events
+    let S = c.section-section.ensures in
+    let H = section t c.args.p c.requires S.0 in
+    ap (records_at (word t.bytes.now) (c.section-section.result.at + heading)) (S.1 ∙ sym H.count) ∙ H.events
 
 pub returns-clause-sends : goal.returns-clause-sends
 returns-clause-sends c = let t = c.args.self.now in
-    let H = section t c.args.p c.requires c.start-at.ensures in
-    subst (λ (n : ℕ). SendsLaid (word t.bytes.now) (c.start-at.result + heading) n) (H.count ∙ sym c.count.ensures) H.told
+    let S = c.section-section.ensures in
+    let H = section t c.args.p c.requires S.0 in
+    subst (λ (n : ℕ). SendsLaid (word t.bytes.now) (c.section-section.result.at + heading) n) (H.count ∙ sym S.1) H.told
