@@ -1,6 +1,7 @@
 -- What the words of records say.
-use Rattle.std.specs.Prelude.{◌≡◌, List, [], ◌∷◌, ℕ, ◌+◌, ◌*◌}
+use Rattle.std.specs.Prelude.{◌≡◌, Bool, cond, List, [], ◌∷◌, ℕ, ◌+◌, ◌*◌, length, Option, Some, None}
 use Rattle.rules.specs.Records as records
+use Rattle.rules.specs.FailureLine.{any, before}
 use Rattle.rules.specs.Table.{width, event_at, records_at}
 use Rattle.xdr.specs.Words.{word}
 use Rattle.events.specs.declared.Event.{Event}
@@ -38,3 +39,7 @@ words_of (event.Basic m) = 1 ∷ m ∷ 0 ∷ 0 ∷ []
 words_of (event.Forced m) = 2 ∷ m ∷ 0 ∷ 0 ∷ []
 words_of (event.Sent q k c) = 3 ∷ q ∷ k ∷ c ∷ []
 words_of (event.Received q k c) = 4 ∷ q ∷ k ∷ c ∷ []
+
+-- where the first record is for which a test holds, oldest first: as many come before it
+abbrev pub first_index : (records.Event → Bool) → records.History → Option ℕ
+first_index o h = cond (any o h) (Some (length (before o h))) None

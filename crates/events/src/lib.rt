@@ -1,11 +1,11 @@
 // The records of one process as a lent table holds them, oldest first (document 01, "The table").
 #![tactic(auto)]
 
-ghost use Rattle.std.specs.Prelude.{◌≡◌, ◌+◌, ◌*◌, ◌≤◌, ◌<◌, length};
+ghost use Rattle.std.specs.Prelude.{◌≡◌, ◌+◌, ◌*◌, ◌≤◌, ◌<◌, length, IfSome};
 ghost use Rattle.xdr.specs.Words.{word};
 ghost use Rattle.rules.specs.Table.{width};
 ghost use Rattle.rules.specs.Lines.{upto};
-ghost use Rattle.rules.specs.FailureLine.{any, before};
+ghost use Rattle.rules.specs.FailureLine.{any};
 
 // A record by its kind: what its words say.
 #[derive(Clone, Copy, Drop)]
@@ -16,14 +16,14 @@ pub enum Event {
     Received { from: u32, k: u32, carried: u32 },
 }
 
-impl Event {
+// Its words: kind, a, b and, for a send or receipt, what it carries.
+impl From<Event> for [u32; 4] {
     ghost use Rattle.events.specs.Events.{words_of};
 
-    // Its words: kind, a, b and, for a send or receipt, what it carries.
-    pub fn words(self) -> [u32; 4]
-        ensures { result ≡ words_of self }
-    {
-        match self {
+    ghost from_gives = { λ event words. words ≡ words_of event };
+
+    fn from(event: Event) -> [u32; 4] {
+        match event {
             Event::Basic { number } => [1, number, 0, 0],
             Event::Forced { number } => [2, number, 0, 0],
             Event::Sent { to, k, carried } => [3, to, k, carried],
@@ -32,7 +32,8 @@ impl Event {
     }
 }
 
-// `count` records of a lent table, from word `at` on.
+// `count` records of a lent table, from word `at` on. No part of a slice: what is read is then `word t i` of the definitions, and no law
+// about parts is needed.
 #[derive(Clone, Copy, Drop)]
 pub struct Records<'a> {
     pub bytes: &'a [u8],
@@ -48,7 +49,7 @@ pub trait Test {
     ghost use Rattle.rules.specs.Records.{Event as Meant};
     ghost use Rattle.events.specs.Events.{meant};
 
-    // what it says of the record that is meant
+    // whether the record that is meant passes
     ghost passes: { Self → Meant → Bool };
 
     fn test(&self, event: Event) -> bool
@@ -56,9 +57,10 @@ pub trait Test {
 }
 
 impl<'a> Records<'a> {
-    ghost use Rattle.events.specs.Events.{meant, record_of, Spells, held};
+    ghost use Rattle.events.specs.Events.{meant, record_of, Spells, held, first_index};
 
-    // The record at index i.
+    // The record at index i. Words become events here, and events words in `From`: a kind is a number there, and where words are tested
+    // that may be no table's (used).
     pub fn get(&self, i: usize) -> Event
         requires { i < self.now.count }
         ensures event { meant result ≡ record_of self.now i }
@@ -85,6 +87,7 @@ impl<'a> Records<'a> {
     }
 
     // The first i records.
+    #[tactic(auto, using(tables::proofs::Scans::records_upto))]
     pub fn upto(&self, i: usize) -> Records<'a>
         requires { i ≤ self.now.count }
         ensures { held result ≡ upto i (held self.now) }
@@ -96,22 +99,24 @@ impl<'a> Records<'a> {
         }
     }
 
-    // How many records come before the first that passes, all if none does.
-    pub fn first<T: Test>(&self, test: &T) -> usize
-        ensures { result ≡ length (before (T.passes test.now) (held self.now)) }
+    // Where the first is that passes.
+    #[tactic(auto, using(crate::proofs::First::first_found))]
+    pub fn first<T: Test>(&self, test: &T) -> Option<usize>
+        ensures first { result ≡ first_index (T.passes test.now) (held self.now) }
+        ensures within { IfSome result (λ i. i < self.now.count) }
     {
         for i in 0..self.count {
             if test.test(self.get(i)) {
-                return i;
+                return Some(i);
             }
         }
-        self.count
+        None
     }
 
     // Whether one passes.
     pub fn any<T: Test>(&self, test: &T) -> bool
         ensures { result ≡ any (T.passes test.now) (held self.now) }
     {
-        self.first(test) < self.count
+        self.first(test).is_some()
     }
 }

@@ -1,25 +1,24 @@
 -- What is found among a process's records.
 use mathlib.Core.Path.{◌≡◌, refl, sym, ap, subst, ◌∙◌}
-use mathlib.Core.Logic.{◌≢◌, ◌⊎◌, inl, inr}
+use mathlib.Core.Logic.{◌≢◌}
 use mathlib.Core.Bool.{Bool, true, false, cond, ◌&&◌, ◌||◌, or-true, false≢true}
 use mathlib.Core.List.{[], ◌∷◌}
-use Prim.Native.Nat.{ℕ, suc, ◌+◌, ◌*◌, ◌≤◌, ◌<◌, zero-le}
+use Prim.Native.Nat.{ℕ, suc, ◌+◌, ◌*◌, ◌≤◌, ◌<◌}
 use native.Mathlib.Numerals.{add-one}
 use native.Mathlib.Omega.{arith}
 use lib.Dec.{eqb, leb, ltb}
 use lib.ListN.{length}
-use borrow.Author.Tests.{lt-ltb, le-ltb, le-leb, lt-leb, eqb-true}
-use Rattle.std.specs.Prelude.{Some}
-use Rattle.rules.specs.Records.{Event, basic, forced, sent, received, History, number, sends, of_send, has_receipt}
+use borrow.Author.Tests.{lt-ltb, le-leb, lt-leb, eqb-true}
+use Rattle.std.specs.Prelude.{Some, None}
+use Rattle.rules.specs.Records.{Event, basic, forced, sent, received, History, number, sends, has_receipt}
 use Rattle.rules.specs.Table.{width, event_at, records_at}
 use Rattle.rules.specs.Lines.{at_least, numbered}
 use Rattle.rules.specs.FailureLine.{any, before}
 use Rattle.events.specs.declared.Event.TheVariants as event
-use Rattle.events.specs.Events.{Spells}
+use Rattle.events.specs.Events.{Spells, first_index}
 use Rattle.tables.specs.Sections.{SendsLaid}
 use Rattle.scans.specs.Receipts.{is_receipt}
 use Rattle.scans.specs.Sends.{there, Answers}
-use Rattle.scans.specs.declared.Sent.{Sent}
 use Rattle.basics.proofs.Older.{Older}
 use Rattle.basics.proofs.Booleans.{Test, passes, fails, test, false_right}
 use Rattle.records.proofs.Cuts.{before_all}
@@ -27,7 +26,6 @@ use Rattle.records.proofs.Histories.{sends_older, of_send_at, carried_at}
 use Rattle.records.proofs.NumberedLines.{reached, numbered_cons, numbered_le}
 use Rattle.tables.proofs.WellLaid.{records_length}
 use Rattle.tables.proofs.Scans.{event as of_event, first_older, sends_at_most}
-use Rattle.events.proofs.First.{any_count}
 
 -- ---- the position of the first checkpoint with number N or more
 
@@ -59,17 +57,21 @@ module _ (N : ℕ) where
         go true (fails y) r = rw (y, before_all o h y)
         go false (fails y) r = rw y
 
-    -- what the search for it says: i records come before the first such checkpoint, of c in all
-    module _ (w : ℕ → ℕ) (at c : ℕ) {i : ℕ} (e : i ≡ length (before (at_least N) (records_at w at c))) where
-      pub position_found : i < c → i + 1 ≡ numbered N (records_at w at c)
-      position_found l =
-          let t : any (at_least N) (records_at w at c) ≡ true = sym (any_count w at c (at_least N) e) ∙ lt-ltb i c l in
-          add-one i ∙ ap suc e ∙ sym (numbered_any (records_at w at c) ∙ rw t)
+    -- what the search for it says
+    module _ (h : History) where
+      pub position_found : {i : ℕ} → Some i ≡ first_index (at_least N) h → i + 1 ≡ numbered N h
+      position_found {i} e = go (test (any (at_least N) h))
+        where
+          go : Test (any (at_least N) h) → i + 1 ≡ numbered N h
+          go (passes t) = let f = rw t at e in add-one i ∙ sym (numbered_any h ∙ rw t (ap suc (let z : length (before (at_least N) h) ≡ i = cc in z)))
+          go (fails t) = let f = rw t at e in absurd (let z : ⊥ = cc in z)
 
-      pub position_none : c ≤ i → c ≡ numbered N (records_at w at c)
-      position_none l =
-          let f : any (at_least N) (records_at w at c) ≡ false = sym (any_count w at c (at_least N) e) ∙ (le-ltb i c l) in
-          sym (numbered_any (records_at w at c) ∙ rw f (records_length w at c))
+      pub position_none : None ≡ first_index (at_least N) h → length h ≡ numbered N h
+      position_none e = go (test (any (at_least N) h))
+        where
+          go : Test (any (at_least N) h) → length h ≡ numbered N h
+          go (passes t) = let f = rw t at e in absurd (let z : ⊥ = cc in z)
+          go (fails t) = sym (numbered_any h ∙ rw t)
 
 -- ---- a receipt of (q, k)
 
@@ -83,9 +85,6 @@ any_receipt q k (received r j c ∷ h) = ap (λ (b : Bool). (eqb r q && eqb j k)
 -- ---- send k
 
 -- there is none
-pub send_zero : (h : History) (k : ℕ) → k ≡ 0 → there k h ≡ false
-send_zero h k e = rw e
-
 pub send_none : (h : History) (k : ℕ) → sends h < k → there k h ≡ false
 send_none h k l = false_right (ltb 0 k) (leb k (sends h)) (lt-leb k (sends h) l)
 

@@ -20,7 +20,10 @@ pub struct Sent {
     pub place: u32,
 }
 
-// Send k, if it is there. In a well laid table a send's own words tell its number and what it carries. The first k - 1 records have less than k sends, so the search begins behind them.
+// Send k, if it is there. In a well laid table a send's own words tell its number and what it carries. The first k - 1 records have less
+// than k sends, so the search begins behind them. `SendsLaid` is asked for here alone, and so it is no field of `Records`. No `Test`: the
+// search begins at that record, and wants the words of the one that it finds.
+#[tactic(auto, using(crate::proofs::Found::send_none, crate::proofs::Found::send_later, crate::proofs::Found::send_fewer))]
 pub fn find_send(records: &Records, k: usize) -> Option<Sent>
     requires { SendsLaid (word records.now.bytes.now) records.now.at records.now.count }
     ensures { Answers k (held records.now) result }
@@ -43,7 +46,7 @@ pub fn find_send(records: &Records, k: usize) -> Option<Sent>
     None
 }
 
-// Tests for a receipt of send k of process q.
+// The test for a receipt of send k of process q.
 #[derive(Drop)]
 struct ReceiptOf {
     q: usize,
@@ -59,13 +62,14 @@ impl Test for ReceiptOf {
 }
 
 // Whether there is a receipt of send k of process q.
+#[tactic(auto, using(crate::proofs::Found::any_receipt))]
 pub fn has_receipt(records: &Records, q: usize, k: usize) -> bool
     ensures { result ≡ has_receipt (held records.now) q k }
 {
     records.any(&ReceiptOf { q, k })
 }
 
-// Tests for a checkpoint with this number or more.
+// The test for a checkpoint with this number or more.
 #[derive(Drop)]
 struct AtLeast {
     number: usize,
@@ -83,6 +87,7 @@ impl Test for AtLeast {
 }
 
 // The position of the first checkpoint with number m or more, else the count of records.
+#[tactic(auto, using(crate::proofs::Found::numbered_zero, crate::proofs::Found::position_found, crate::proofs::Found::position_none, tables::proofs::WellLaid::records_length))]
 pub fn position(records: &Records, m: usize) -> usize
     ensures position { result ≡ numbered m (held records.now) }
     ensures within { result ≤ records.now.count }
@@ -90,10 +95,8 @@ pub fn position(records: &Records, m: usize) -> usize
     if m == 0 {
         return 0;
     }
-    let before = records.first(&AtLeast { number: m });
-    if before < records.count {
-        before + 1
-    } else {
-        records.count
+    match records.first(&AtLeast { number: m }) {
+        Some(i) => i + 1,
+        None => records.count,
     }
 }
