@@ -1,20 +1,21 @@
--- The rows of a step on a table, as far as the functions of this crate check them one after the other.
+-- The rows of a step on a well laid table, as far as the functions of this crate check them one after the other.
 use Rattle.std.specs.Prelude.{◌≡◌, not, cond, ◌||◌, List, [], ◌∷◌, ◌++◌, ℕ, ◌+◌, ◌<◌, eqb, leb, ltb, length}
-use Rattle.xdr.specs.Words.{word}
-use Rattle.rules.specs.Records.{History, number, carried, send_place, has_send, has_receipt}
-use Rattle.rules.specs.Table.{decoded}
+use Rattle.rules.specs.Records.{History, history, number, carried, send_place, has_send, has_receipt}
+use Rattle.rules.specs.Table.{start}
 use Rattle.rules.specs.Steps.{Call}
-use Rattle.rules.specs.Calls.{Row, row, first, table_rows, step_rows}
+use Rattle.rules.specs.Calls.{Row, row, first, step_rows}
+use Rattle.layout.specs.declared.Section.{Section}
 use Rattle.layout.specs.declared.Table.{Table}
+use Rattle.layout.specs.Tables.{state_of, Heads}
 use Rattle.scans.specs.declared.Sent.{Sent}
 
--- the table, an area that wants so many bytes, the acting process
-abbrev pub act_rows : List ℕ → ℕ → ℕ → ℕ → List Row
-act_rows t len want p = table_rows t ++ row 4 (not (eqb len want)) ∷ row 5 (leb (word t 0) p) ∷ []
+-- an area that wants so many bytes, and the acting process of n
+abbrev pub act_rows : ℕ → ℕ → ℕ → ℕ → List Row
+act_rows n len want p = row 4 (not (eqb len want)) ∷ row 5 (leb n p) ∷ []
 
 -- and the other process
-abbrev pub pair_rows : List ℕ → ℕ → ℕ → ℕ → ℕ → List Row
-pair_rows t len want p q = act_rows t len want p ++ row 6 (leb (word t 0) q || eqb q p) ∷ []
+abbrev pub pair_rows : ℕ → ℕ → ℕ → ℕ → ℕ → List Row
+pair_rows n len want p q = act_rows n len want p ++ row 6 (leb n q || eqb q p) ∷ []
 
 -- the message k of q to p, and the records left of E: h and g are the histories of p and q
 abbrev pub receipt_rows : ℕ → History → History → ℕ → ℕ → ℕ → List Row
@@ -28,10 +29,10 @@ receipt_rows E h g p q k =
 abbrev pub Reads : History → ℕ → Sent → Type 0
 Reads g k s = (s.carried ≡ carried g k) × (s.place ≡ send_place g k)
 
--- the table is in these bytes, and p is one of its processes
-abbrev pub Holds : Table → List ℕ → ℕ → Type 0
-Holds table t p = (table.bytes.now ≡ t) × (p < table.n)
+-- p is a process of the table, and this its section
+abbrev pub Acts : Table → ℕ → Section → Type 0
+Acts table p section = (p < table.n) × Heads section (start table.e p) (history (state_of table) p)
 
--- the row that stops a step on the table t
-abbrev pub step_row : List ℕ → ℕ → Call → ℕ → ℕ
-step_row t p call len = first (table_rows t ++ step_rows (word t 0) (word t 1) (decoded t) p call len)
+-- the row that stops a step on a well laid table
+abbrev pub step_row : Table → ℕ → Call → ℕ → ℕ
+step_row table p call len = first (step_rows table.n table.e (state_of table) p call len)

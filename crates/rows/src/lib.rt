@@ -1,97 +1,96 @@
 // The rows of checkpoint, send and receipt (document 01, "Where a call is stopped"), in their order.
 #![tactic(auto)]
 
-ghost use Rattle.std.specs.Prelude.{◌≡◌, cond, ◌+◌, ◌<◌, ◌≤◌, IfOk, ltb, length};
+ghost use Rattle.std.specs.Prelude.{◌≡◌, cond, ◌+◌, ◌*◌, ◌<◌, ◌≤◌, IfOk, ltb};
 ghost use Rattle.rules.specs.Records.{history};
 ghost use Rattle.rules.specs.Steps.{checkpoint, send, receipt};
 ghost use Rattle.rules.specs.Calls.{first};
 ghost use Rattle.refusals.specs.Refusals.{returned};
 ghost use Rattle.layout.specs.Tables.{state_of};
-ghost use Rattle.rows.specs.Rows.{act_rows, pair_rows, receipt_rows, Reads, Holds, step_row};
+ghost use Rattle.rows.specs.Rows.{act_rows, pair_rows, receipt_rows, Reads, Acts, step_row};
 
-use layout::Table;
+use layout::{Section, Table};
 use refusals::Refusal;
 use scans::Sent;
 
-// The lent table, where the area of a call that wants `want` bytes and the acting process pass too.
-fn act_row<'a>(t: &'a [u8], len: usize, want: usize, p: usize) -> Result<Table<'a>, Refusal>
-    ensures row { returned result ≡ first (act_rows t.now len want p) }
-    ensures table { IfOk result (λ table. Holds table t.now p) }
+// The section of the acting process, where it and the area of a call that wants `want` bytes pass. `Acts` says whose section it is: of this
+// table and process, so that each function says it of what it answers.
+fn act_row(table: &Table, len: usize, want: usize, p: usize) -> Result<Section, Refusal>
+    ensures row { returned result ≡ first (act_rows table.now.n len want p) }
+    ensures section { IfOk result (Acts table.now p) }
 {
-    let table = Table::read(t)?;
-    let n = table.n;
     if len != want {
         return Err(Refusal::BadAreaLength);
     }
-    if n <= p {
+    if table.n <= p {
         return Err(Refusal::BadProcess);
     }
-    Ok(table)
+    Ok(table.section(p))
 }
 
-// Whether process p has fewer records left than a step needs.
-fn is_full(table: &Table, p: usize, needed: usize) -> bool
-    requires { (p < table.now.n) × (needed ≤ 2) }
-    ensures { result ≡ ltb table.now.e (length (history (state_of table.now) p) + needed) }
+// Whether a section has fewer records left, of e, than a step needs.
+fn is_full(section: Section, e: usize, needed: u32) -> bool
+    requires { needed ≤ 2 }
+    ensures { result ≡ ltb e (section.count + needed) }
 {
-    table.e < table.count(p) + needed
+    e < (section.count + needed) as usize
 }
 
-// The table, where no row stops a checkpoint of process p.
-pub fn checkpoint_row<'a>(t: &'a [u8], len: usize, p: usize) -> Result<Table<'a>, Refusal>
-    ensures row { returned result ≡ step_row t.now p checkpoint len }
-    ensures table { IfOk result (λ table. Holds table t.now p) }
+// The section of process p, where no row stops a checkpoint.
+pub fn checkpoint_row(table: &Table, len: usize, p: usize) -> Result<Section, Refusal>
+    ensures row { returned result ≡ step_row table.now p checkpoint len }
+    ensures section { IfOk result (Acts table.now p) }
 {
-    let table = act_row(t, len, 4, p)?;
-    if is_full(&table, p, 1) {
+    let section = act_row(table, len, 4, p)?;
+    if is_full(section, table.e, 1) {
         return Err(Refusal::NoRecordsLeft);
     }
-    if table.number(p) as usize == table.n * table.e {
+    if section.number as usize == table.n * table.e {
         return Err(Refusal::NumberAtLimit);
     }
-    Ok(table)
+    Ok(section)
 }
 
-// The table, where the area, the acting process and the other process pass.
-fn pair_row<'a>(
-    t: &'a [u8],
-    len: usize,
-    want: usize,
-    p: usize,
-    q: usize,
-) -> Result<Table<'a>, Refusal>
-    ensures row { returned result ≡ first (pair_rows t.now len want p q) }
-    ensures table { IfOk result (λ table. Holds table t.now p × (q < table.n)) }
+// The section of the acting process, where the area, it and the other process pass.
+fn pair_row(table: &Table, len: usize, want: usize, p: usize, q: usize) -> Result<Section, Refusal>
+    ensures row { returned result ≡ first (pair_rows table.now.n len want p q) }
+    ensures section { IfOk result (λ section. Acts table.now p section × (q < table.now.n)) }
 {
-    let table = act_row(t, len, want, p)?;
+    let section = act_row(table, len, want, p)?;
     if table.n <= q || q == p {
         return Err(Refusal::BadOtherProcess);
     }
-    Ok(table)
+    Ok(section)
 }
 
-// The table, where no row stops a send of process p to q.
-pub fn send_row<'a>(t: &'a [u8], len: usize, p: usize, q: usize) -> Result<Table<'a>, Refusal>
-    ensures row { returned result ≡ step_row t.now p (send q) len }
-    ensures table { IfOk result (λ table. Holds table t.now p) }
+// The section of process p, where no row stops its send to q.
+pub fn send_row(table: &Table, len: usize, p: usize, q: usize) -> Result<Section, Refusal>
+    ensures row { returned result ≡ step_row table.now p (send q) len }
+    ensures section { IfOk result (Acts table.now p) }
 {
-    let table = pair_row(t, len, 8, p, q)?;
-    if is_full(&table, p, 1) {
+    let section = pair_row(table, len, 8, p, q)?;
+    if is_full(section, table.e, 1) {
         return Err(Refusal::NoRecordsLeft);
     }
-    Ok(table)
+    Ok(section)
 }
 
 // The records that a receipt needs.
-fn needed(forces: bool) -> usize
+fn needed(forces: bool) -> u32
     ensures { (result ≡ cond forces 2 1) × (result ≤ 2) }
 {
     if forces { 2 } else { 1 }
 }
 
-// The send of message k of q, where no row of the message stops its receipt by p.
-fn message_row(table: &Table, p: usize, q: usize, k: usize) -> Result<Sent, Refusal>
-    requires { (p < table.now.n) × (q < table.now.n) }
+// The send of message k of q, where no row of the message stops its receipt by p, whose section is given.
+fn message_row(
+    table: &Table,
+    section: Section,
+    p: usize,
+    q: usize,
+    k: usize,
+) -> Result<Sent, Refusal>
+    requires { Acts table.now p section × (q < table.now.n) }
     ensures row { returned result ≡ first (receipt_rows table.now.e (history (state_of table.now) p) (history (state_of table.now) q) p q k) }
     ensures sent { IfOk result (Reads (history (state_of table.now) q) k) }
 {
@@ -102,24 +101,24 @@ fn message_row(table: &Table, p: usize, q: usize, k: usize) -> Result<Sent, Refu
     if scans::has_receipt(&table.records(p), q, k) {
         return Err(Refusal::AlreadyReceived);
     }
-    if is_full(table, p, needed(table.number(p) < sent.carried)) {
+    if is_full(section, table.e, needed(section.number < sent.carried)) {
         return Err(Refusal::NoRecordsLeft);
     }
     Ok(sent)
 }
 
-// The table and the send, where no row stops a receipt of message k of q by process p.
-pub fn receipt_row<'a>(
-    t: &'a [u8],
+// The section of process p and the send, where no row stops the receipt of message k of q.
+pub fn receipt_row(
+    table: &Table,
     len: usize,
     p: usize,
     q: usize,
     k: usize,
-) -> Result<(Table<'a>, Sent), Refusal>
-    ensures row { returned result ≡ step_row t.now p (receipt q k) len }
-    ensures sent { IfOk result (λ m. Holds m.0 t.now p × Reads (history (state_of m.0) q) k m.1) }
+) -> Result<(Section, Sent), Refusal>
+    ensures row { returned result ≡ step_row table.now p (receipt q k) len }
+    ensures sent { IfOk result (λ r. Acts table.now p r.0 × Reads (history (state_of table.now) q) k r.1) }
 {
-    let table = pair_row(t, len, 16, p, q)?;
-    let sent = message_row(&table, p, q, k)?;
-    Ok((table, sent))
+    let section = pair_row(table, len, 16, p, q)?;
+    let sent = message_row(table, section, p, q, k)?;
+    Ok((section, sent))
 }

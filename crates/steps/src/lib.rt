@@ -7,35 +7,36 @@ ghost use Rattle.rules.specs.Calls.{outcome, step_on};
 ghost use Rattle.refusals.specs.Refusals.{returned};
 
 use events::Event;
+use layout::Table;
 use refusals::Refusal;
 
+// A checkpoint of process p.
 pub fn checkpoint(table: &mut [u8], area: &mut [u8], p: u32) -> Result<(), Refusal>
     ensures { outcome (returned result) table.new area.new ≡ step_on table.old area.old p checkpoint_call }
 {
-    let before = rows::checkpoint_row(table, area.len(), p as usize)?;
-    let at = before.start(p as usize);
-    let x = before.number(p as usize) + 1;
-    let s = before.sends(p as usize) as u32;
-    let basic = Event::Basic { number: x }.words();
-    store::add_record(table, at, x, s, basic);
+    let before = Table::read(table)?;
+    let section = rows::checkpoint_row(&before, area.len(), p as usize)?;
+    let x = section.number + 1;
+    let basic = Event::Basic { number: x };
+    store::add_record(table, section, x, section.sends, basic);
     xdr::put(area, 0, x);
     Ok(())
 }
 
+// A send of process p to q.
 pub fn send(table: &mut [u8], area: &mut [u8], p: u32, q: u32) -> Result<(), Refusal>
     ensures { outcome (returned result) table.new area.new ≡ step_on table.old area.old p (send_call q) }
 {
-    let before = rows::send_row(table, area.len(), p as usize, q as usize)?;
-    let at = before.start(p as usize);
-    let x = before.number(p as usize);
-    let s = before.sends(p as usize) as u32 + 1;
+    let before = Table::read(table)?;
+    let section = rows::send_row(&before, area.len(), p as usize, q as usize)?;
+    let x = section.number;
+    let s = section.sends + 1;
     let event = Event::Sent {
         to: q,
         k: s,
         carried: x,
     };
-    let words = event.words();
-    store::add_record(table, at, x, s, words);
+    store::add_record(table, section, x, s, event);
     xdr::put_all(area, 0, [s, x]);
     Ok(())
 }
@@ -48,16 +49,22 @@ fn place_behind(c: u32, forced: bool) -> u32
     c + 1 + u32::from(forced)
 }
 
+// The receipt of message k of q by process p.
 pub fn receipt(table: &mut [u8], area: &mut [u8], p: u32, q: u32, k: u32) -> Result<(), Refusal>
     ensures { outcome (returned result) table.new area.new ≡ step_on table.old area.old p (receipt_call q k) }
 {
-    let (before, sent) = rows::receipt_row(table, area.len(), p as usize, q as usize, k as usize)?;
-    let at = before.start(p as usize);
-    let c = before.count(p as usize) as u32;
+    let before = Table::read(table)?;
+    let (section, sent) = rows::receipt_row(
+        &before,
+        area.len(),
+        p as usize,
+        q as usize,
+        k as usize,
+    )?;
     let carried = sent.carried;
     let sent_at = sent.place;
-    let forced = store::add_receipt(table, at, carried, q, k);
-    let received_at = place_behind(c, forced);
+    let forced = store::add_receipt(table, section, carried, q, k);
+    let received_at = place_behind(section.count, forced);
     xdr::put_all(area, 0, [carried, u32::from(forced), sent_at, received_at]);
     Ok(())
 }

@@ -2,59 +2,57 @@
 #![tactic(auto)]
 
 ghost use Rattle.std.specs.Prelude.{◌≡◌, cond, ◌+◌, ◌*◌, ◌≤◌, length};
-ghost use Rattle.xdr.specs.Words.{word, put_words};
-ghost use Rattle.rules.specs.Table.{heading, width, most_words};
-ghost use Rattle.store.specs.Added.{with_record, with_forced, forces_at, with_receipt};
+ghost use Rattle.xdr.specs.Words.{put_words};
+ghost use Rattle.rules.specs.Table.{heading, width};
+ghost use Rattle.events.specs.Events.{words_of};
+ghost use Rattle.store.specs.Added.{with_record, forces, with_receipt};
 
 use events::Event;
+use layout::Section;
 
-// Stores a section's heading and, behind its c records, the words of further ones.
-fn add<const N: usize>(t: &mut [u8], at: usize, c: u32, head: [u32; 3], words: [u32; N])
-    requires { (at ≤ most_words) × (c ≤ 1024) × (4 * (at + heading + width * c + N) ≤ length t.old) }
-    ensures { t.new ≡ put_words (put_words t.old at head) (at + heading + width * c) words.entry }
+// The word behind a section's records.
+fn end(section: Section) -> usize
+    ensures { result ≡ section.at + heading + width * section.count }
 {
-    xdr::put_all(t, at, head);
-    xdr::put_all(t, at + shape::HEADING + shape::WIDTH * (c as usize), words);
+    section.at + shape::HEADING + shape::WIDTH * section.count as usize
 }
 
-// One record with these words; x and s are the section's number and count of sends after it.
-pub fn add_record(t: &mut [u8], at: usize, x: u32, s: u32, words: [u32; 4])
-    requires { (at ≤ most_words) × (word t.old at ≤ 1024) × (4 * (at + heading + width * (word t.old at + 1)) ≤ length t.old) }
-    ensures { t.new ≡ with_record t.old at x s words }
+// Stores a record's words from word i on.
+fn put(t: &mut [u8], i: usize, event: Event)
+    requires { 4 * (i + width) ≤ length t.old }
+    ensures { t.new ≡ put_words t.old i (words_of event) }
 {
-    let c = xdr::get(t, at);
-    add(t, at, c, [c + 1, x, s], words);
+    xdr::put_all::<4>(t, i, event.into());
 }
 
-// A forced checkpoint with number m, then a receipt with these words.
-fn add_forced(t: &mut [u8], at: usize, s: u32, m: u32, b: [u32; 4])
-    requires { (at ≤ most_words) × (word t.old at ≤ 1024) × (4 * (at + heading + width * (word t.old at + 2)) ≤ length t.old) }
-    ensures { t.new ≡ with_forced t.old at s m b }
+// One record; x and s are the section's number and count of sends after it.
+pub fn add_record(t: &mut [u8], section: Section, x: u32, s: u32, event: Event)
+    requires { 4 * (section.at + heading + width * (section.count + 1)) ≤ length t.old }
+    ensures { t.new ≡ with_record t.old section x s event }
 {
-    let c = xdr::get(t, at);
-    let a = Event::Forced { number: m }.words();
-    let words = [a[0], a[1], a[2], a[3], b[0], b[1], b[2], b[3]];
-    add(t, at, c, [c + 2, m, s], words);
+    xdr::put_all(t, section.at, [section.count + 1, x, s]);
+    put(t, end(section), event);
 }
 
-// The receipt of (q, k), which carries m; returns whether it forces a checkpoint.
-pub fn add_receipt(t: &mut [u8], at: usize, m: u32, q: u32, k: u32) -> bool
-    requires { (at ≤ most_words) × (word t.old at ≤ 1024) × (4 * (at + heading + width * (word t.old at + cond (forces_at t.old at m) 2 1)) ≤ length t.old) }
-    ensures forces { result ≡ forces_at t.old at m }
-    ensures stored { t.new ≡ with_receipt t.old at m q k }
+// The receipt of (q, k), which carries m, behind a checkpoint where it forces one; returns whether it does.
+pub fn add_receipt(t: &mut [u8], section: Section, m: u32, q: u32, k: u32) -> bool
+    requires { 4 * (section.at + heading + width * (section.count + cond (forces section m) 2 1)) ≤ length t.old }
+    ensures forces { result ≡ forces section m }
+    ensures stored { t.new ≡ with_receipt t.old section m q k }
 {
-    let x = xdr::get(t, at + shape::NUMBER);
-    let s = xdr::get(t, at + shape::SENDS);
+    let forces = section.number < m;
+    let count = section.count + 1 + u32::from(forces);
+    xdr::put_all(t, section.at, [count, section.number.max(m), section.sends]);
+    let mut behind = end(section);
+    if forces {
+        put(t, behind, Event::Forced { number: m });
+        behind += shape::WIDTH;
+    }
     let receipt = Event::Received {
         from: q,
         k,
         carried: m,
     };
-    let words = receipt.words();
-    if x < m {
-        add_forced(t, at, s, m, words);
-        return true;
-    }
-    add_record(t, at, x, s, words);
-    false
+    put(t, behind, receipt);
+    forces
 }

@@ -1,28 +1,26 @@
-use Rattle.std.proofs.Common.{arith}
+use mathlib.Core.Path.{refl}
 use Rattle.rules.specs.Steps.{checkpoint}
-use Rattle.layout.proofs.Sections.{number_small, sends_small}
-use Rattle.steps.proofs.Done.{refused, ready, checkpoint_done}
+use Rattle.steps.proofs.Done.{unread, stops, one_fits, checkpoint_does}
 use Rattle.steps.proofs.checkpoint.Goals as goal
 
 pub returns-in_err-before : goal.returns-in_err-before
 returns-in_err-before c = let a = c.args in
-    refused c.from_residual.result _ c.from_residual.ensures.1 a.table.now a.area.now a.p checkpoint c.in_err-before.ensures.row
+    unread c.from_residual.result _ c.from_residual.ensures.1 a.table.now a.area.now a.p checkpoint c.in_err-before.ensures.row
 
-pub overflow_add-x : goal.overflow_add-x
-overflow_add-x c = let b = c.in_ok-before in omega (arith, c.number-x.ensures, number_small b.before c.args.p b.ensures.table.1)
-
-pub overflow_cast-s : goal.overflow_cast-s
-overflow_cast-s c = let b = c.in_ok-before in omega (arith, c.sends-s.ensures, sends_small b.before c.args.p b.ensures.table.1)
+pub returns-in_err-section : goal.returns-in_err-section
+returns-in_err-section c = let a = c.args in
+    let b = c.in_ok-before in
+    let r = c.from_residual-in_err-section in
+    stops b.before b.ensures.table a.area.now a.p r.result _ r.ensures.1 checkpoint c.in_err-section.ensures.row
 
 pub add_record-requires : goal.add_record-requires
-add_record-requires c = let b = c.in_ok-before in
-    let R = ready b.before b.ensures.table.0 c.args.area.now c.args.p c.start-at.ensures checkpoint b.ensures.row in (
-      omega (arith, R.own.near),
-      omega (arith, R.own.short, R.own.most),
-      omega (arith, R.free, R.own.inside),
-    )
+add_record-requires c = let a = c.args in
+    let b = c.in_ok-before in
+    let s = c.in_ok-section in
+    one_fits b.before b.ensures.table a.area.now a.p s.section s.ensures.section checkpoint s.ensures.row refl
 
 pub returns : goal.returns
-returns c = let b = c.in_ok-before in
-    checkpoint_done b.before b.ensures.table.0 c.args.area.now c.args.p c.start-at.ensures b.ensures.row c.number-x.ensures c.sends-s.ensures
-    c.words-basic.ensures c.add_record.ensures c.put.ensures
+returns c = let a = c.args in
+    let b = c.in_ok-before in
+    let s = c.in_ok-section in
+    checkpoint_does b.before b.ensures.table a.area.now a.p s.section s.ensures.section s.ensures.row c.add_record.ensures c.put.ensures
