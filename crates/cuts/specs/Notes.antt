@@ -1,5 +1,5 @@
 -- Notes of where sends go. A process is noted from some index on: its send k stands k places behind.
-use Rattle.std.specs.Prelude.{cond, List, [], ◌∷◌, ℕ, ◌+◌, ◌%◌, ◌<◌, leb, eqb, get_or, set}
+use Rattle.std.specs.Prelude.{cond, List, [], ◌∷◌, ℕ, ◌+◌, ◌%◌, ◌<◌, leb, eqb, get_or, set, Option, Some, None}
 use Rattle.rules.specs.Records.{Event, basic, forced, sent, received, History, sends}
 use Rattle.cuts.specs.declared.Span.{Span}
 
@@ -21,21 +21,23 @@ noted from (e ∷ h) to = set (noted from h to) (from + sends h + 1) (note_of e)
 abbrev pub span_of : List Span → ℕ → Span
 span_of spans q = get_or spans q (record { start = 0; count = 0 })
 
--- Where send k of process q is noted, 0 where it is not.
-abbrev pub place_of : List Span → ℕ → ℕ → ℕ
-place_of spans q k = cond (leb k (span_of spans (q % 16)).count) ((span_of spans (q % 16)).start + k) 0
+-- where send k is noted in a span, if it is
+abbrev pub place_in : Span → ℕ → Option ℕ
+place_in span k = cond (leb k span.count) (Some (span.start + k)) None
 
 -- every place is in a list of this length
 abbrev pub Inside : List Span → ℕ → Type 0
 Inside spans len = (q : ℕ) → (span_of spans q).start + (span_of spans q).count < len
 
--- the list once process p's receipts are struck from it: where p is noted for one of them, 16
+-- a list once the note at a place is struck from it if it is of process p: 16 is noted then
+abbrev pub struck_once : ℕ → Option ℕ → List ℕ → List ℕ
+struck_once p None to = to
+struck_once p (Some i) to = cond (eqb (get_or to i 0) p) (set to i 16) to
+
+-- the list once process p's receipts are struck from it
 abbrev pub struck : List Span → ℕ → History → List ℕ → List ℕ
 struck spans p [] to = to
 struck spans p (basic m ∷ h) to = struck spans p h to
 struck spans p (forced m ∷ h) to = struck spans p h to
 struck spans p (sent q ∷ h) to = struck spans p h to
-struck spans p (received q k c ∷ h) to =
-    let u = struck spans p h to in
-    let i = place_of spans q k in
-    set u i (cond (eqb (get_or u i 0) p) 16 (get_or u i 0))
+struck spans p (received q k c ∷ h) to = struck_once p (place_in (span_of spans (q % 16)) k) (struck spans p h to)

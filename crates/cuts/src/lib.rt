@@ -8,7 +8,7 @@ ghost use Rattle.rules.specs.FailureLine.{last_saved};
 ghost use Rattle.events.specs.Events.{meant, held};
 ghost use Rattle.cuts.specs.Parts.{counts};
 ghost use Rattle.cuts.specs.Tests.{late, note_index, unsent};
-ghost use Rattle.cuts.specs.Notes.{note_of, noted, place_of, Inside, struck};
+ghost use Rattle.cuts.specs.Notes.{note_of, noted, place_in, Inside, struck};
 
 use events::{Event, Records, Test};
 
@@ -35,6 +35,7 @@ fn sent(event: Event) -> usize
 }
 
 // Whether position i is 0 or a checkpoint's.
+#[tactic(auto, using(tables::proofs::Scans::records_upto, crate::proofs::Scanned::saved_next))]
 fn saved(records: &Records, i: usize) -> bool
     requires { i ≤ records.now.count }
     ensures saved { result ≡ eqb (last_saved (upto i (held records.now))) i }
@@ -44,13 +45,14 @@ fn saved(records: &Records, i: usize) -> bool
 }
 
 // From the end of some records, of which k are sends, back to the latest saved position that is at most r.
+#[tactic(auto, using(tables::proofs::Scans::records_upto, tables::proofs::Scans::sends_at_most, crate::proofs::Scanned::back_done))]
 pub fn back_to(records: &Records, k: usize, r: usize) -> Part
     requires { (r ≤ records.now.count) × (k ≡ sends_of (held records.now)) }
     ensures { (result.position ≡ last_saved (upto r (held records.now))) × (result.sends ≡ sends_of (upto result.position (held records.now))) }
 {
     let mut i = records.count;
     let mut sends = k;
-    // By while: it goes down until a test holds, and counts the sends that it passes.
+    // By while: it goes down until a test holds, and counts the sends that it passes. A search and then a count would read them twice.
     while (r < i) | !saved(records, i) {
         i -= 1;
         sends -= sent(records.get(i));
@@ -78,7 +80,8 @@ impl<'a> Test for Late<'a> {
     }
 }
 
-// Where send k of process q stands in a list of len notes.
+// Where send k of process q stands in a list of len notes, 0 where it does not: a note there is nobody's, so that a test needs no branch
+// for it.
 fn note_index(e: usize, len: usize, q: usize, k: usize) -> usize
     requires { (e ≤ 1024) × (q < 4294967296) × (k < 4294967296) }
     ensures { result ≡ note_index e len q k }
@@ -110,7 +113,8 @@ impl<'a> Test for Unsent<'a> {
     }
 }
 
-// What is noted at the place of the next send once a record is read: its destination, 16 if it is no send.
+// What is noted at the place of the next send once a record is read: its destination, 16 if it is no send. A note is one byte; an `Option`
+// would be two, and there are 16,384.
 fn note_of(event: Event) -> u8
     ensures { result ≡ note_of (meant event) }
 {
@@ -121,7 +125,7 @@ fn note_of(event: Event) -> u8
 }
 
 // Notes from an index on where the sends go; how many there are. Every record is written at the next send's place, so that the loop needs no
-// branch.
+// branch: where sends alone were written, failure lines took a quarter longer.
 pub fn note(records: &Records, from: usize, to: &mut [u8]) -> usize
     requires { from + records.now.count < length to.old }
     ensures { (to.new ≡ noted from (held records.now) to.old) × (result ≡ sends_of (held records.now)) × (result ≤ records.now.count) }
@@ -142,27 +146,28 @@ pub struct Span {
     pub count: u16,
 }
 
-// Where send k of process q is noted, 0 if it is not.
-fn place(spans: &[Span; 16], q: u32, k: u32) -> usize
-    ensures { result ≡ place_of spans.now q k }
-{
-    let span = spans[(q % 16) as usize];
-    shape::pick(k <= span.count as u32, span.start as usize + k as usize, 0)
+impl Span {
+    // Where send k is noted, if it is.
+    fn place(self, k: u32) -> Option<usize>
+        ensures { result ≡ place_in self k }
+    {
+        (k <= u32::from(self.count)).then_some(usize::from(self.start) + k as usize)
+    }
 }
 
-// Strikes from the notes what process p has received: where p is noted for one of its receipts, 16 is noted instead. What is no
-// receipt leaves its note as it is, so that the loop needs no branch.
+// Strikes from the notes what process p has received: where p is noted for one of its receipts, 16 is noted instead.
+//
+// `Inside` is asked for here alone: a type that holds it would be one of spans and notes, made for this call.
 pub fn strike(records: &Records, spans: &[Span; 16], p: u8, to: &mut [u8])
     requires { Inside spans.now (length to.old) }
     ensures { to.new ≡ struck spans.now p (held records.now) to.old }
 {
     for i in 0..records.count {
-        let (receipt, q, k) = match records.get(i) {
-            Event::Received { from, k, .. } => (true, from, k),
-            _ => (false, 0, 0),
-        };
-        let x = place(spans, q, k);
-        let d = to[x];
-        to[x] = shape::pick(receipt & (d == p), 16, d as usize) as u8;
+        if let Event::Received { from, k, .. } = records.get(i)
+            && let Some(x) = spans[(from % 16) as usize].place(k)
+            && to[x] == p
+        {
+            to[x] = 16;
+        }
     }
 }

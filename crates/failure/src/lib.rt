@@ -17,6 +17,7 @@ use layout::Table;
 use refusals::Refusal;
 
 // The failure line; the first n of the sixteen parts count.
+#[tactic(auto, using(crate::proofs::FailureLine::line_positions))]
 fn line(table: &Table, mask: u32) -> [Part; 16]
     ensures { (p : ℕ) → p < table.now.n → get_or (positions result) p 0 ≡ get_or (failure_line mask (state_of table.now)) p 0 }
 {
@@ -33,9 +34,11 @@ fn goes_back(table: &Table, p: usize, down: bool, position: u16) -> bool
 }
 
 // The mask of the processes that go back.
+#[tactic(auto, using(crate::proofs::FailureLine::mask_fits, layout::proofs::Sections::processes))]
 fn back(table: &Table, mask: u32, line: &[Part; 16]) -> u32
     ensures { result ≡ back_mask mask (state_of table.now) (positions line.now) }
 {
+    // By for: as a chain of filter, map and sum it was not proved; what `sum` asks of the closures stayed open.
     let mut back: u32 = 0;
     for p in 0..table.n {
         if goes_back(table, p, tops::bit(mask, p), line[p].position) {
@@ -45,7 +48,8 @@ fn back(table: &Table, mask: u32, line: &[Part; 16]) -> u32
     back
 }
 
-// Writes the first n positions.
+// Writes the first n positions, of sixteen: the memory is fixed.
+#[tactic(auto, using(xdr::proofs::Puts::each_next, xdr::proofs::Puts::put_length, cuts::proofs::Parts::position_at), unfolding(xdr::specs::Words::put_each))]
 fn put_positions(area: &mut [u8], n: usize, line: &[Part; 16])
     requires { (n ≤ 16) × (4 * n ≤ length area.old) }
     ensures { area.new ≡ put_each area.old (λ p. get_or (positions line.now) p 0) n }
@@ -80,6 +84,7 @@ fn asked<'a>(table: &'a [u8], len: usize, mask: u32) -> Result<Table<'a>, Refusa
     Ok(table)
 }
 
+// The failure line, once the processes of the mask have failed.
 pub fn failed(table: &[u8], area: &mut [u8], mask: u32) -> Result<(), Refusal>
     ensures { outcome (returned result) table.now area.new ≡ failed_on table.now area.old mask }
 {

@@ -26,6 +26,7 @@ use Rattle.cuts.specs.declared.Part.{Part}
 use Rattle.cuts.specs.Parts.{positions, counts, part_at}
 use Rattle.cuts.specs.Tests.{note_index, unsent}
 use Rattle.cuts.specs.Notes.{noted}
+use Rattle.cuts.proofs.Scanned.{held_length}
 use Rattle.cuts.proofs.Notes.{noted_length, noted_other, noted_sent, noted_blank}
 use Rattle.tops.specs.Tops.{Counted}
 use Rattle.lowering.specs.Lowering.{always_orphan, goes, Noted, Blank}
@@ -101,14 +102,22 @@ always_same s n E p to lp room N h legal x =
 -- ---- a table
 
 module _ (t : Table) (p : ℕ) (lt : p < t.n) (r : Records) (is : held r ≡ history (state_of t) p) where
-  pub note_turn : (to : List ℕ) → p * t.e + t.e < length to → Noted (state_of t) t.e to p → Blank to (p * t.e)
+  -- there is room for all that process p may send
+  pub note_room : {len : ℕ} → t.n * t.e < len → p * t.e + r.count < len
+  note_room room =
+      let H = section t p lt refl in
+      let m = mul-le-mul_right {m = p + 1} {n = t.n} t.e (omega arith) in
+      omega (arith, H.short, H.count, held_length r, ap length is)
+
+  pub note_turn : (to : List ℕ) → t.n * t.e < length to → Noted (state_of t) t.e to p → Blank to (p * t.e)
       → {u : List ℕ} → u ≡ noted (p * t.e) (held r) to
       → (length u ≡ length to) × Noted (state_of t) t.e u (p + 1) × Blank u ((p + 1) * t.e)
   note_turn to room N B e =
       let H = section t p lt refl in
       let d = H.count in
       let f = H.short in
-      noted_next (state_of t) t.n t.e p to t.laid.3 room N B (lawful t p) (omega arith) (e ∙ ap (λ (h : History). noted (p * t.e) h to) is)
+      let m = mul-le-mul_right {m = p + 1} {n = t.n} t.e (omega arith) in
+      noted_next (state_of t) t.n t.e p to t.laid.3 (omega arith) N B (lawful t p) (omega arith) (e ∙ ap (λ (h : History). noted (p * t.e) h to) is)
 
   -- what the scan finds is the first receipt that is an orphan in every cut
   pub always_step : (cut : List Part) → Counted (state_of t) (positions cut) (counts cut) → (to : List ℕ) → t.n * t.e < length to

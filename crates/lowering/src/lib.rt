@@ -13,7 +13,7 @@ ghost use Rattle.events.specs.Events.{held};
 ghost use Rattle.layout.specs.Tables.{state_of};
 ghost use Rattle.cuts.specs.Parts.{positions, counts};
 ghost use Rattle.tops.specs.Tops.{Counted};
-ghost use Rattle.lowering.specs.Lowering.{Pruned, Settled, Noted, Blank};
+ghost use Rattle.lowering.specs.Lowering.{Pruned, Settled, Noted};
 
 use cuts::{Late, Part, Unsent};
 use events::{Records, Test};
@@ -22,25 +22,30 @@ use layout::Table;
 // ---- one process
 
 // A part of a process's records, taken back to the latest saved position before the first record in it that passes, if there is one.
+#[tactic(auto, using(crate::proofs::Lowered::lower_stays))]
 fn lower<T: Test>(records: &Records, part: Part, test: &T) -> Part
     requires { (part.position ≤ records.now.count) × (part.sends ≡ sends_of (upto part.position (held records.now))) }
     ensures { (result.position ≡ lowered (T.passes test.now) (held records.now) part.position) × (result.sends ≡ sends_of (upto result.position (held records.now))) }
 {
     let records = records.upto(usize::from(part.position));
-    let r = records.first(test);
-    if r == records.count {
-        return part;
+    match records.first(test) {
+        Some(r) => cuts::back_to(&records, usize::from(part.sends), r),
+        None => part,
     }
-    cuts::back_to(&records, usize::from(part.sends), r)
 }
+
+// `Counted` is a clause of each function below that takes a cut: a struct of table and parts would have each say in its place that the cut
+// it returns is of the same table. So is that there is room for all notes: it is about the table and its caller's notes.
 
 // ---- receipts that are orphans in every cut
 
-// Notes where all sends go.
+// Notes where all sends go, 16 where there is none.
+#[tactic(auto, using(crate::proofs::Notes::note_room))]
 fn note_all(table: &Table, to: &mut [u8])
-    requires { (table.now.n * table.now.e < length to.old) × Blank to.old 0 }
+    requires { table.now.n * table.now.e < length to.old }
     ensures { (length to.new ≡ length to.old) × Noted (state_of table.now) table.now.e to.new table.now.n }
 {
+    to.fill(16);
     for p in 0..table.n {
         cuts::note(&table.records(p), p * table.e, to);
     }
@@ -68,7 +73,7 @@ fn pruned_within<const N: usize>(table: &Table, cut: [Part; 16]) -> [Part; 16]
     requires { (table.now.n * table.now.e < N) × (N ≤ 16385) × Counted (state_of table.now) (positions cut) (counts cut) }
     ensures { Pruned (state_of table.now) (positions cut) (positions result) (counts result) table.now.n }
 {
-    let mut to = [16u8; N];
+    let mut to = [0u8; N];
     note_all(table, &mut to);
     prune(table, cut, &to)
 }
