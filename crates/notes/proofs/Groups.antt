@@ -1,5 +1,5 @@
 -- Senders that are noted one behind the other, and what is struck from their notes.
-use mathlib.Core.Path.{◌≡◌, refl, sym, ap, ◌∙◌, subst}
+use mathlib.Core.Path.{◌≡◌, sym, ap, ◌∙◌, subst}
 use mathlib.Core.Logic.{◌≢◌, inl}
 use mathlib.Core.Bool.{Bool, true, false, cond, ◌&&◌}
 use mathlib.Core.List.{List}
@@ -9,25 +9,19 @@ use native.Mathlib.Numerals.{add-one}
 use native.Mathlib.Omega.{arith}
 use native.Mathlib.Decide.{dec_lt, ℕ_discrete}
 use lib.Dec.{ltb, eqb}
-use lib.ListN.{length, get_or, replicate, length-set}
+use lib.ListN.{length, get_or, length-set}
 use lib.Seq.{get_or-set_other, get_or-set_same}
 use borrow.Author.Tests.{ne_eqb, lt-ltb, le-ltb, eq-eqb}
 use Rattle.xdr.specs.Words.{word}
 use Rattle.rules.specs.Records.{History, State, sends, destination, has_receipt}
 use Rattle.rules.specs.Lines.{part}
 use Rattle.tables.proofs.Laid.{Legal, sends_length}
-use Rattle.cuts.specs.declared.Span.{Span}
 use Rattle.cuts.specs.Notes.{span_of, Inside, noted, struck}
 use Rattle.cuts.proofs.Notes.{struck_at, struck_length, noted_sent, noted_other, noted_length}
 use Rattle.notes.specs.declared.cut.Cut.{Cut}
 use Rattle.notes.specs.declared.Senders.{Senders}
-use Rattle.notes.specs.Noted.{state_at, places, sent_below, none_from, grown, Group, left, Left, Noted}
+use Rattle.notes.specs.Noted.{state_at, places, sent_below, grown, Group, left, Left, Noted}
 use Rattle.notes.proofs.Places.{part_legal, part_length}
-
-blank : (m q : ℕ) → get_or {A = Span} (replicate m (record { start = 0; count = 0 })) q (record { start = 0; count = 0 }) ≡ record { start = 0; count = 0 }
-blank zero q = refl
-blank (suc m) zero = refl
-blank (suc m) (suc q) = blank m q
 
 module _ (s : State) (cut : List ℕ) where
   sent_mono : (q x : ℕ) → sent_below s cut q ≤ sent_below s cut (q + x)
@@ -52,16 +46,6 @@ module _ (s : State) (cut : List ℕ) where
       go (no l) (no x) = let z : q ≡ r = omega arith in let y = ap (sent_below s cut) z in (z, omega arith)
 
   -- ---- the group
-
-  no_group : (q : ℕ) → Group s cut (none_from q)
-  no_group q = record {
-    size = refl;
-    start = λ r a b. absurd (omega arith);
-    count = λ r a b. absurd (omega arith);
-    before = λ r a. (ap (λ (x : Span). x.start) (blank 16 r), ap (λ (x : Span). x.count) (blank 16 r));
-    behind = λ r a. (ap (λ (x : Span). x.start) (blank 16 r), ap (λ (x : Span). x.count) (blank 16 r));
-    all = omega arith;
-  }
 
   module _ (g : Senders) (G : Group s cut g) where
     -- a process of which something is noted is in the group
@@ -181,15 +165,6 @@ module _ (s : State) (cut : List ℕ) where
         ∙ ap (λ (x : ℕ). cond (eqb x p && has_receipt (part s cut p) q k) 16 x) (L q k a b c d) ∙ left_next p q k (omega arith)
 
 -- ---- at a cut
-
-pub none_noted : (c : Cut) (q p : ℕ) → q ≤ c.table.n → (to : List ℕ) → 0 < length to → Noted c p (none_from q) to
-none_noted c q p le to room = record {
-  group = no_group (state_at c) (places c) q;
-  notes = λ r k a b. absurd (omega arith);
-  order = le_refl q;
-  most = le;
-  room = room;
-}
 
 module _ (c : Cut) (g : Senders) (to : List ℕ) where
   -- one sender more is noted

@@ -1,8 +1,9 @@
 -- What is noted of the messages in transit at a cut.
-use Rattle.std.specs.Prelude.{◌≡◌, cond, ◌&&◌, List, ℕ, zero, suc, ◌+◌, ◌≤◌, ◌<◌, ltb, length, get_or, set, replicate}
+use Rattle.std.specs.Prelude.{◌≡◌, Bool, cond, ◌&&◌, List, [], ◌∷◌, ◌++◌, ℕ, zero, suc, ◌+◌, ◌≤◌, ◌<◌, ltb, length, get_or, set, replicate}
 use Rattle.xdr.specs.Words.{words}
 use Rattle.rules.specs.Records.{State, sends, destination, has_receipt}
 use Rattle.rules.specs.Lines.{part}
+use Rattle.rules.specs.Resend.{Message, message, transit_of}
 use Rattle.layout.specs.Tables.{state_of}
 use Rattle.cuts.specs.Notes.{span_of}
 use Rattle.notes.specs.declared.cut.Cut.{Cut}
@@ -61,3 +62,35 @@ pub record Noted (c : Cut) (p : ℕ) (g : Senders) (to : List ℕ) : Type 0 wher
   pub order : g.from ≤ g.next
   pub most : g.next ≤ c.table.n
   pub room : g.many < length to
+
+-- ---- as messages
+
+-- a note that isn't struck
+abbrev pub is_left : ℕ → Bool
+is_left d = ltb d 16
+
+-- the message that a note of send k of process q leaves, as a list
+abbrev pub left_one : ℕ → ℕ → ℕ → List Message
+left_one q k d = cond (is_left d) (message q k d ∷ []) []
+
+-- those that notes of process q leave, where the first note is that of send k + 1
+abbrev pub left_in : ℕ → ℕ → List ℕ → List Message
+left_in q k [] = []
+left_in q k (d ∷ to) = left_one q (suc k) d ++ left_in q (suc k) to
+
+-- how many sends process q has made inside a cut, and those of them that are in transit
+abbrev pub sent_by : Cut → ℕ → ℕ
+sent_by c q = sends (part (state_at c) (places c) q)
+
+abbrev pub messages_of : Cut → ℕ → List Message
+messages_of c q = transit_of (state_at c) (places c) q (sent_by c q)
+
+-- what a clause sees of notes: the cut, and that the senders from one on and before another are noted
+pub record Noting : Type 0 where
+  pub cut : Cut
+  pub from : ℕ
+  pub next : ℕ
+
+-- process q is noted
+abbrev pub Has : Noting → ℕ → Type 0
+Has v q = (v.from ≤ q) × (q < v.next)

@@ -8,24 +8,25 @@
 mod cut;
 
 ghost use Rattle.std.specs.Prelude.{◌≡◌, ◌<◌, length};
-ghost use Rattle.notes.specs.Noted.{HasRoom, none_from, grown, Noted};
+ghost use Rattle.notes.specs.Noted.{HasRoom, none_from, grown, Noted, Has, sent_by, left_in, messages_of};
 
 pub use cut::Cut;
 use cuts::Span;
+use std::marker::Model;
 
 // The senders that are noted: from process `from` on, before `next`. `spans` has where each is noted, and `many` is how many notes there
 // are.
 #[derive(Clone, Copy, Drop)]
-pub struct Senders {
-    pub from: usize,
-    pub next: usize,
-    pub many: usize,
-    pub spans: [Span; 16],
+struct Senders {
+    from: usize,
+    next: usize,
+    many: usize,
+    spans: [Span; 16],
 }
 
 impl Senders {
-    // None, from process q on.
-    pub fn none(q: usize) -> Senders
+    // Nobody yet, of those from process q on.
+    fn none(q: usize) -> Senders
         ensures { result ≡ none_from q }
     {
         Senders {
@@ -50,40 +51,111 @@ impl Senders {
     }
 }
 
-// Notes where the sends in the cut go, of as many processes from q on as there is room for: no process has more of them than records in
-// the cut.
-fn note_sends(cut: &Cut, q: usize, to: &mut [u8]) -> Senders
-    requires { (q < cut.now.table.n) × HasRoom cut.now (length to.old) }
-    ensures { Noted cut.now 0 result to.new × (result.from ≡ q) × (q < result.next) × (length to.new ≡ length to.old) }
-{
-    let mut senders = Senders::none(q);
-    for p in q..cut.table.n {
-        let many = senders.many;
-        if to.len() <= many + cut.position(p) {
-            break;
+// A cut, with room for the notes of any one process.
+#[derive(Drop)]
+struct Room<'a> {
+    cut: Cut<'a>,
+    to: &'a mut [u8],
+    ghost enough: { HasRoom cut (length to.now) },
+}
+
+// Each method says which notes there are then, and that the cut is the same: this changes from one to the next, so that no type has it.
+impl<'a> Room<'a> {
+    // Notes where the sends in the cut go, of as many processes from q on as there is room for: no process has more of them than records in
+    // the cut.
+    fn note_sends(&mut self, q: usize) -> Senders
+        requires { q < self.old.cut.table.n }
+        ensures { Noted self.old.cut 0 result self.new.to.now × (self.new.cut ≡ self.old.cut) × (result.from ≡ q) × (q < result.next) }
+    {
+        let cut = self.cut;
+        let mut senders = Senders::none(q);
+        for p in q..cut.table.n {
+            let many = senders.many;
+            if self.to.len() <= many + cut.position(p) {
+                break;
+            }
+            let count = cuts::note(&cut.part(p), many, self.to);
+            senders.add(count);
         }
-        let count = cuts::note(&cut.part(p), many, to);
-        senders.add(count);
+        senders
     }
-    senders
+
+    // Strikes what the processes have received in the cut.
+    fn strike_receipts(&mut self, senders: &Senders)
+        requires { Noted self.old.cut 0 senders.now self.old.to.now }
+        ensures { Noted self.old.cut self.old.cut.table.n senders.now self.new.to.now × (self.new.cut ≡ self.old.cut) }
+    {
+        let cut = self.cut;
+        for p in 0..cut.table.n {
+            cuts::strike(&cut.part(p), &senders.spans, p as u8, self.to);
+        }
+    }
+
+    // Notes the messages in transit, of as many senders from q on as there is room for.
+    fn note_transit(&mut self, q: usize) -> Senders
+        requires { q < self.old.cut.table.n }
+        ensures { Noted self.old.cut self.old.cut.table.n result self.new.to.now × (self.new.cut ≡ self.old.cut) × (result.from ≡ q) × (q < result.next) }
+    {
+        let senders = self.note_sends(q);
+        self.strike_receipts(&senders);
+        senders
+    }
 }
 
-// Strikes what the processes have received in the cut.
-fn strike_receipts(cut: &Cut, senders: &Senders, to: &mut [u8])
-    requires { Noted cut.now 0 senders.now to.old }
-    ensures { Noted cut.now cut.now.table.n senders.now to.new × (length to.new ≡ length to.old) }
-{
-    for p in 0..cut.table.n {
-        cuts::strike(&cut.part(p), &senders.spans, p as u8, to);
-    }
+// The messages in transit at a cut, noted for some senders at a time. A clause sees the cut and which senders these are.
+#[derive(Drop)]
+pub struct Notes<'a> {
+    room: Room<'a>,
+    senders: Senders,
 }
 
-// Notes the messages in transit, of as many senders from q on as there is room for.
-pub fn note_transit(cut: &Cut, q: usize, to: &mut [u8]) -> Senders
-    requires { (q < cut.now.table.n) × HasRoom cut.now (length to.old) }
-    ensures { Noted cut.now cut.now.table.n result to.new × (result.from ≡ q) × (q < result.next) × (length to.new ≡ length to.old) }
-{
-    let senders = note_sends(cut, q, to);
-    strike_receipts(cut, &senders, to);
-    senders
+impl<'a> Model for Notes<'a> {
+    ghost use Rattle.notes.specs.Noted.{Noting, Noted};
+
+    ghost Value = { Noting };
+
+    ghost view = { λ s. record { cut = s.room.cut; from = s.senders.from; next = s.senders.next } };
+
+    ghost invariant = { λ s. Noted s.room.cut s.room.cut.table.n s.senders s.room.to.now };
+}
+
+impl<'a> Notes<'a> {
+    // Of a cut, where nobody is noted yet.
+    pub fn new(cut: Cut<'a>, to: &'a mut [u8]) -> Notes<'a>
+        requires { HasRoom cut (length to.old) }
+        ensures { result.cut ≡ cut.entry }
+    {
+        Notes {
+            room: Room { cut, to },
+            senders: Senders::none(0),
+        }
+    }
+
+    pub fn cut(&self) -> Cut<'a>
+        ensures { result ≡ self.now.cut }
+    {
+        self.room.cut
+    }
+
+    // Notes process q, unless it is noted, and others behind it.
+    pub fn note(&mut self, q: usize)
+        requires { q < self.old.cut.table.n }
+        ensures { (self.new.cut ≡ self.old.cut) × Has self.new q }
+    {
+        if q < self.senders.from || self.senders.next <= q {
+            self.senders = self.room.note_transit(q);
+        }
+    }
+
+    // The notes of process q's sends in the cut, by their numbers: those that are left are its messages in transit.
+    pub fn of(&self, q: usize) -> &[u8]
+        requires { Has self.now q }
+        ensures many { length result.now ≡ sent_by self.now.cut q }
+        ensures left { left_in q 0 result.now ≡ messages_of self.now.cut q }
+    {
+        let senders = &self.senders;
+        let span = &senders.spans[q];
+        let start = usize::from(span.start) + 1;
+        &self.room.to[start..start + usize::from(span.count)]
+    }
 }

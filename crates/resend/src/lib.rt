@@ -10,48 +10,43 @@ ghost use Rattle.notes.specs.Noted.{HasRoom};
 ghost use Rattle.transit.specs.Transit.{sends_below, transit_at};
 
 use layout::Table;
-use notes::Cut;
+use notes::{Cut, Notes};
 use refusals::Refusal;
 
 // How many sends the processes have made, in the cut and after it.
 fn sends(table: &Table) -> usize
     ensures { (result ≡ sends_below (state_of table.now) table.now.n) × (result ≤ 16384) }
 {
-    let mut sum = 0;
-    for p in 0..table.n {
-        sum += table.sends(p);
-    }
-    sum
+    (0..table.n).map(|p| table.sends(p)).sum()
 }
 
 // Whether the answer fits into len bytes. It has no more messages than were sent, so where these fit they need not be counted.
-fn fits(cut: &Cut, len: usize, to: &mut [u8]) -> bool
-    requires { HasRoom cut.now (length to.old) }
-    ensures { (result ≡ leb (4 + 12 * length (transit_at cut.now)) len) × (length to.new ≡ length to.old) }
+fn fits(notes: &mut Notes, len: usize) -> bool
+    ensures { (result ≡ leb (4 + 12 * length (transit_at notes.old.cut)) len) × (notes.new.cut ≡ notes.old.cut) }
 {
-    4 + 12 * sends(&cut.table) <= len || 4 + 12 * transit::count(cut, to) <= len
+    let cut = notes.cut();
+    4 + 12 * sends(&cut.table) <= len || 4 + 12 * transit::count(notes) <= len
 }
 
-// At a cut; `to` is room for notes.
-fn answer(cut: &Cut, area: &mut [u8], to: &mut [u8]) -> Result<(), Refusal>
-    requires { HasRoom cut.now (length to.old) }
-    ensures { outcome_with (returned result) cut.now.table.bytes.now area.new cut.now.positions.now ≡ resend_on cut.now.table.bytes.now cut.now.positions.now area.old }
+// Answers the messages in transit at the cut of these notes.
+fn answer(notes: &mut Notes, area: &mut [u8]) -> Result<(), Refusal>
+    ensures { outcome_with (returned result) notes.old.cut.table.bytes.now area.new notes.old.cut.positions.now ≡ resend_on notes.old.cut.table.bytes.now notes.old.cut.positions.now area.old }
 {
-    if !fits(cut, area.len(), to) {
+    if !fits(notes, area.len()) {
         return Err(Refusal::AreaTooShort);
     }
-    let count = transit::list(cut, area, to);
+    let count = transit::list(notes, area);
     xdr::put(area, 0, count as u32);
     Ok(())
 }
 
 // With room for N notes, in a frame of its own.
 #[inline(never)]
-fn with_room<const N: usize>(cut: &Cut, area: &mut [u8]) -> Result<(), Refusal>
-    requires { HasRoom cut.now N }
-    ensures { outcome_with (returned result) cut.now.table.bytes.now area.new cut.now.positions.now ≡ resend_on cut.now.table.bytes.now cut.now.positions.now area.old }
+fn with_room<const N: usize>(cut: Cut, area: &mut [u8]) -> Result<(), Refusal>
+    requires { HasRoom cut N }
+    ensures { outcome_with (returned result) cut.entry.table.bytes.now area.new cut.entry.positions.now ≡ resend_on cut.entry.table.bytes.now cut.entry.positions.now area.old }
 {
-    answer(cut, area, &mut [0; N])
+    answer(&mut Notes::new(cut, &mut [0; N]), area)
 }
 
 // A small table does not pay for the room that the largest needs: 3,072 notes, so that any three processes fit.
@@ -60,8 +55,8 @@ pub fn resend(table: &[u8], positions: &[u8], area: &mut [u8]) -> Result<(), Ref
 {
     let cut = Cut::at(Table::read(table)?, positions)?;
     if cut.table.n * cut.table.e < 256 {
-        with_room::<256>(&cut, area)
+        with_room::<256>(cut, area)
     } else {
-        with_room::<3073>(&cut, area)
+        with_room::<3073>(cut, area)
     }
 }

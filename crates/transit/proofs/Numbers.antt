@@ -39,14 +39,6 @@ module _ (s : State) (cut : List ℕ) where
       omega arith
 
   -- the messages of those before are among all
-  pub of_mono : (q k x : ℕ) → length (transit_of s cut q k) ≤ length (transit_of s cut q (k + x))
-  of_mono q k zero = let e : k + 0 ≡ k = omega arith in rw e (le_refl (length (transit_of s cut q k)))
-  of_mono q k (suc x) =
-      let e : k + suc x ≡ suc (k + x) = omega arith in
-      let r = of_mono q k x in
-      let l = length-append (transit_of s cut q (k + x)) (unless_got s cut q (suc (k + x))) in
-      rw e (omega arith)
-
   pub below_mono : (q x : ℕ) → length (transit_below s cut q) ≤ length (transit_below s cut (q + x))
   below_mono q zero = let e : q + 0 ≡ q = omega arith in rw e (le_refl (length (transit_below s cut q)))
   below_mono q (suc x) =
@@ -69,10 +61,9 @@ messages_append : (ms ns : List Message) → messages_words (ms ++ ns) ≡ messa
 messages_append [] ns = refl
 messages_append (message q k p ∷ ms) ns = ap (λ (l : List ℕ). q ∷ k ∷ p ∷ l) (messages_append ms ns)
 
--- one message more, behind those that are written
-pub put_more : (a : List ℕ) (ms : List Message) (m : Message) {count : ℕ} {u v : List ℕ} → count ≡ length ms
-    → u ≡ put_words a 1 (messages_words ms) → v ≡ put_words u (1 + 3 * count) (messages_words (m ∷ []))
-    → v ≡ put_words a 1 (messages_words (ms ++ (m ∷ [])))
-put_more a ms m {count} e f g =
-    let i : 1 + 3 * count ≡ 1 + length (messages_words ms) = (let l = messages_length ms in omega arith) in
-    rw (g, f, messages_append ms (m ∷ [])) (put_append a 1 (messages_words ms) (messages_words (m ∷ [])) i)
+-- more messages, behind those that are written
+pub put_more : (a : List ℕ) (i : ℕ) {j : ℕ} (ms ns : List Message) → j ≡ i + 3 * length ms → {u v : List ℕ} → u ≡ put_words a i (messages_words ms)
+    → v ≡ put_words u j (messages_words ns) → v ≡ put_words a i (messages_words (ms ++ ns))
+put_more a i {j} ms ns e f g =
+    let x : j ≡ i + length (messages_words ms) = (let l = messages_length ms in omega arith) in
+    rw (g, f, messages_append ms ns) (put_append a i (messages_words ms) (messages_words ns) x)

@@ -1,114 +1,60 @@
 // The messages in transit at a cut, counted and listed (document 02, slip 1).
 #![tactic(auto)]
 
-ghost use Rattle.std.specs.Prelude.{◌≡◌, ◌+◌, ◌*◌, ◌≤◌, ◌<◌, length, position};
+ghost use Rattle.std.specs.Prelude.{◌≡◌, ◌+◌, ◌*◌, ◌≤◌, ◌<◌, length};
+ghost use Rattle.std.specs.List.{count_by};
 ghost use Rattle.xdr.specs.Words.{put_words};
 ghost use Rattle.rules.specs.Resend.{messages_words};
-ghost use Rattle.notes.specs.Noted.{HasRoom};
-ghost use Rattle.transit.specs.Transit.{transit_at, is_left, at_start, Stands, passed, Passes, Few};
+ghost use Rattle.notes.specs.Noted.{is_left, left_in};
+ghost use Rattle.transit.specs.Transit.{transit_at};
 
-use notes::{Cut, Senders};
+use notes::Notes;
 
-// Send k of the sender.
-#[derive(Clone, Copy, Drop)]
-struct Message {
-    sender: u32,
-    k: u32,
-    receiver: u32,
-}
-
-// Where the first of some notes is that is left.
-fn first_left(notes: &[u8]) -> Option<usize>
-    ensures { result ≡ position is_left notes.now }
+// How many notes are left: a sum, since `filter` would branch at each.
+fn left(notes: &[u8]) -> usize
+    ensures { result ≡ count_by is_left notes.now }
 {
-    notes.iter().position(|d| *d < 16)
+    notes.iter().map(|d| usize::from(*d < 16)).sum()
 }
 
-// A walk through the messages in transit, by sender and then send number: the first k sends of process q are passed, and all of those
-// before it. The senders are noted some at a time.
-#[derive(Clone, Copy, Drop)]
-struct Walk {
-    senders: Senders,
-    q: usize,
-    k: usize,
-}
-
-impl Walk {
-    fn start() -> Walk
-        ensures { result ≡ at_start }
-    {
-        Walk {
-            senders: Senders::none(0),
-            q: 0,
-            k: 0,
-        }
-    }
-
-    // Notes senders from process q on, where those that are noted are passed.
-    #[inline(never)]
-    fn note(&mut self, cut: &Cut, to: &mut [u8])
-        requires { Stands cut.now self.old to.old × (self.old.q < cut.now.table.n) × HasRoom cut.now (length to.old) }
-        ensures { Stands cut.now self.new to.new × (self.new.q < self.new.senders.next) × (self.new.q ≡ self.old.q) × (passed cut.now self.new ≡ passed cut.now self.old) × (length to.new ≡ length to.old) }
-    {
-        if self.q == self.senders.next {
-            self.senders = notes::note_transit(cut, self.q, to);
-        }
-    }
-
-    // The next message; `to` is room for notes. It is small beside the notes, which are made once for many messages.
-    #[inline(always)]
-    fn next(&mut self, cut: &Cut, to: &mut [u8]) -> Option<Message>
-        requires { Stands cut.now self.old to.old × HasRoom cut.now (length to.old) }
-        ensures { Stands cut.now self.new to.new × Passes cut.now self.old result self.new × Few cut.now self.new × (length to.new ≡ length to.old) }
-    {
-        // By hand: q and k stay in the walk from one message to the next.
-        while self.q < cut.table.n {
-            self.note(cut, to);
-            let span = self.senders.spans[self.q];
-            let start = span.start as usize + 1;
-            let rest = &to[start + self.k..start + span.count as usize];
-            if let Some(i) = first_left(rest) {
-                self.k += i + 1;
-                return Some(Message {
-                    sender: self.q as u32,
-                    k: self.k as u32,
-                    receiver: rest[i] as u32,
-                });
-            }
-            self.q += 1;
-            self.k = 0;
-        }
-        None
-    }
-}
-
-// How many messages are in transit; `to` is room for notes.
-pub fn count(cut: &Cut, to: &mut [u8]) -> usize
-    requires { HasRoom cut.now (length to.old) }
-    ensures { (result ≡ length (transit_at cut.now)) × (result ≤ 16384) × (length to.new ≡ length to.old) }
+// How many messages are in transit.
+pub fn count(notes: &mut Notes) -> usize
+    ensures { (result ≡ length (transit_at notes.old.cut)) × (result ≤ 16384) × (notes.new.cut ≡ notes.old.cut) }
 {
-    let mut walk = Walk::start();
     let mut count = 0;
-    while let Some(_) = walk.next(cut, to) {
-        count += 1;
+    for q in 0..notes.cut().table.n {
+        notes.note(q);
+        count += left(notes.of(q));
     }
     count
 }
 
-// Writes them; how many there are.
-pub fn list(cut: &Cut, area: &mut [u8], to: &mut [u8]) -> usize
-    requires { HasRoom cut.now (length to.old) × (4 + 12 * length (transit_at cut.now) ≤ length area.old) }
-    ensures { (result ≡ length (transit_at cut.now)) × (result ≤ 16384) × (area.new ≡ put_words area.old 1 (messages_words (transit_at cut.now))) }
+// Writes those of process q, behind this many others, by its notes; how many there are then. The count goes on from sender to sender, so
+// that no `enumerate` gives it.
+fn list_sender(area: &mut [u8], q: usize, notes: &[u8], others: usize) -> usize
+    requires { (q < 16) × (length notes.now ≤ 1024) × (4 + 12 * (others + length (left_in q 0 notes.now)) ≤ length area.old) }
+    ensures { (result ≡ others + length (left_in q 0 notes.now)) × (area.new ≡ put_words area.old (1 + 3 * others) (messages_words (left_in q 0 notes.now))) }
 {
-    let mut walk = Walk::start();
+    let mut count = others;
+    for (i, d) in notes.iter().enumerate() {
+        if *d < 16 {
+            xdr::put_all(area, 1 + 3 * count, [q as u32, i as u32 + 1, u32::from(*d)]);
+            count += 1;
+        }
+    }
+    count
+}
+
+// Writes them; how many there are. It goes over the senders as `count` does, and no more: a function for both loops would be as long as they
+// are, since each does something else with a sender's notes.
+pub fn list(notes: &mut Notes, area: &mut [u8]) -> usize
+    requires { 4 + 12 * length (transit_at notes.old.cut) ≤ length area.old }
+    ensures { (result ≡ length (transit_at notes.old.cut)) × (result ≤ 16384) × (area.new ≡ put_words area.old 1 (messages_words (transit_at notes.old.cut))) }
+{
     let mut count = 0;
-    while let Some(message) = walk.next(cut, to) {
-        xdr::put_all(
-            area,
-            1 + 3 * count,
-            [message.sender, message.k, message.receiver],
-        );
-        count += 1;
+    for q in 0..notes.cut().table.n {
+        notes.note(q);
+        count = list_sender(area, q, notes.of(q), count);
     }
     count
 }

@@ -1,16 +1,25 @@
-use Rattle.std.proofs.Common.{arith}
-use Rattle.notes.proofs.Places.{sends_short}
-use Rattle.resend.proofs.Outcomes.{one_more}
+use Rattle.std.proofs.Common.{rules, arith}
+use mathlib.Core.Path.{◌∙◌}
+use Rattle.std.proofs.lemmas.Iterator.{YieldsList-from_range, YieldsList-from_map}
+use Rattle.std.proofs.lemmas.Iterator.Consumers.{sum_from_yields_List, fits_from_yields_list}
+use Rattle.rules.specs.Records.{history, sends}
+use Rattle.layout.specs.Tables.{state_of}
+use Rattle.transit.proofs.Messages.{few_sends}
+use Rattle.resend.proofs.Outcomes.{sum_of_sends}
 use Rattle.resend.proofs.sends.Goals as goal
 
-pub overflow_add-sum : goal.overflow_add-sum
-overflow_add-sum c = let t = c.args.table.now in
-    omega (arith, c.loop-p.invariant.1, c.sends-sum.ensures, sends_short t c.loop-p.p, t.laid.3, t.laid.4)
+pub sum-requires-clause-fits : goal.sum-requires-clause-fits
+sum-requires-clause-fits c = let t = c.args.table.now in
+    let few = few_sends t in
+    let total = sum_of_sends (state_of t) t.n in
+    fits_from_yields_list c.map.result 18446744073709551616
+    (YieldsList-from_map _ (λ p. sends (history (state_of t) p)) (YieldsList-from_range 0 t.n t.n c.map.ensures.source (omega arith)) c.map.ensures.closure (λ x r q k. search rules))
+    (omega arith)
 
-pub loop-p-preserved : goal.loop-p-preserved
-loop-p-preserved c = let t = c.args.table.now in
-    let short = sends_short t c.loop-p.p in
-    let few = t.laid.4 in
-    let sum = c.loop-p.invariant in
-    let more = c.sends-sum.ensures in
-    (one_more t c.loop-p.p sum.0 more, omega arith)
+pub returns : goal.returns
+returns c = let t = c.args.table.now in
+    let few = few_sends t in
+    let total = sum_from_yields_List c.map.result c.sum.result c.sum.ensures.ran
+    (YieldsList-from_map _ (λ p. sends (history (state_of t) p)) (YieldsList-from_range 0 t.n t.n c.map.ensures.source (omega arith)) c.map.ensures.closure (λ x r q k. search rules))
+    ∙ sum_of_sends (state_of t) t.n in
+    (total, omega arith)

@@ -1,9 +1,7 @@
-use Rattle.std.proofs.Common.{◌≡◌, ◌-◌, length}
-use Rattle.transit.specs.Transit.{transit_at, Stands, passed}
+use Rattle.std.proofs.Common.{◌≡◌, length}
+use Rattle.rules.specs.Resend.{transit_below}
+use Rattle.notes.specs.Noted.{state_at, places}
 use Rattle.transit.proofs.count.Given as goal
 
-abbrev pub invariant-loop-count : goal.invariant-loop-count
-invariant-loop-count l = Stands l.cut l.walk l.to × (l.count ≡ length (passed l.cut l.walk)) × (length l.to ≡ length l.initial.to)
-
-abbrev pub decreases-loop-count : goal.decreases-loop-count
-decreases-loop-count l = length (transit_at l.cut) - l.count
+abbrev pub invariant-loop-q : goal.invariant-loop-q
+invariant-loop-q l = (l.notes.cut ≡ l.initial.notes.cut) × (l.count ≡ length (transit_below (state_at l.initial.notes.cut) (places l.initial.notes.cut) l.q))

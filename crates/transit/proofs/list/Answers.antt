@@ -1,26 +1,44 @@
-use Rattle.std.proofs.Common.{rules, arith, refl}
+use Rattle.std.proofs.Common.{arith, refl}
 use mathlib.Core.Path.{sym, ap, ◌∙◌}
-use lib.ListN.{length, length-append}
+use lib.ListN.{length}
 use Rattle.xdr.specs.Words.{put_words}
 use Rattle.xdr.proofs.Puts.{all_length}
-use Rattle.rules.specs.Resend.{messages_words}
-use Rattle.transit.specs.Transit.{passed}
+use Rattle.rules.specs.Resend.{transit_below, messages_words}
+use Rattle.notes.specs.Noted.{state_at, places, sent_by, left_in}
 use Rattle.transit.proofs.Numbers.{put_more}
+use Rattle.transit.proofs.Messages.{below_all, all_sends, few_sends, few_sent, below_next}
 use Rattle.transit.proofs.list.Goals as goal
 
-pub loop-message-init : goal.loop-message-init
+pub loop-q-init : goal.loop-q-init
 unfolding put_words
-loop-message-init c =
-    (search rules, search rules, ap (λ w. put_words c.args.area.now 1 (messages_words (passed c.args.cut.now w))) (sym c.start-walk.ensures), refl, refl)
+loop-q-init c = (refl, refl, refl, refl)
 
-pub loop-message-preserved : goal.loop-message-preserved
-loop-message-preserved c = let E = c.in-Some.ensures in
-    let s = c.loop-message in
-    let longer = ap length E.1 ∙ length-append (passed c.args.cut.now s.walk) _ in
-    let written = put_more c.args.area.now (passed c.args.cut.now s.walk) _ s.invariant.1 s.invariant.2 c.put_all.ensures in (
-      E.0,
-      omega (arith, longer, s.invariant.1),
-      written ∙ ap (λ ms. put_words c.args.area.now 1 (messages_words ms)) (sym E.1),
-      search rules,
-      ap length c.put_all.ensures ∙ all_length s.area _ _ ∙ s.invariant.4,
+pub list_sender-count-requires : goal.list_sender-count-requires
+list_sender-count-requires c = let C = c.args.notes.now.cut in
+    let s = c.loop-q in
+    let same = c.note.ensures.0 ∙ s.invariant.0 in
+    let next = below_next C c.loop-q-test.true c.cut-q-end.ensures refl same c.of.result.now c.of.ensures.left in (
+      omega (arith, ap (λ d. d.table.n) c.cut-q-end.ensures, C.table.laid.3, c.loop-q-test.true),
+      omega (arith, c.of.ensures.many ∙ ap (λ d. sent_by d s.q) same, few_sent C s.q),
+      omega (arith, next.2, s.invariant.1, s.invariant.3, c.requires),
     )
+
+pub loop-q-preserved : goal.loop-q-preserved
+loop-q-preserved c = let a = c.args in
+    let C = a.notes.now.cut in
+    let s = c.loop-q in
+    let same = c.note.ensures.0 ∙ s.invariant.0 in
+    let E = c.list_sender-count.ensures in
+    let next = below_next C c.loop-q-test.true c.cut-q-end.ensures refl same c.of.result.now c.of.ensures.left in
+    let more = put_more a.area.now 1 (transit_below (state_at C) (places C) s.q) (left_in s.q 0 c.of.result.now) (omega (arith, s.invariant.1)) s.invariant.2 E.1 in (
+      same,
+      omega (arith, next.1, s.invariant.1, E.0),
+      more ∙ ap (λ ms. put_words a.area.now 1 (messages_words ms)) (sym next.0),
+      ap length E.1 ∙ all_length s.area _ _ ∙ s.invariant.3,
+    )
+
+pub returns : goal.returns
+returns c = let C = c.args.notes.now.cut in
+    let s = c.loop-q in
+    let all = below_all C c.loop-q-test.false s.auto.q-end c.cut-q-end.ensures refl in
+    (s.invariant.1 ∙ ap length all, omega (arith, ap length all, s.invariant.1, all_sends C, few_sends C.table), s.invariant.2 ∙ ap (λ ms. put_words c.args.area.now 1 (messages_words ms)) all)

@@ -1,12 +1,9 @@
-use Rattle.std.proofs.Common.{◌≡◌, ◌-◌, length}
+use Rattle.std.proofs.Common.{◌≡◌, length}
 use Rattle.xdr.specs.Words.{put_words}
-use Rattle.rules.specs.Resend.{messages_words}
-use Rattle.transit.specs.Transit.{transit_at, Stands, passed}
+use Rattle.rules.specs.Resend.{messages_words, transit_below}
+use Rattle.notes.specs.Noted.{state_at, places}
 use Rattle.transit.proofs.list.Given as goal
 
-abbrev pub invariant-loop-message : goal.invariant-loop-message
-invariant-loop-message l = Stands l.cut l.walk l.to × (l.count ≡ length (passed l.cut l.walk)) × (l.area ≡ put_words l.initial.area 1 (messages_words (passed l.cut l.walk)))
-    × (length l.to ≡ length l.initial.to) × (length l.area ≡ length l.initial.area)
-
-abbrev pub decreases-loop-message : goal.decreases-loop-message
-decreases-loop-message l = length (transit_at l.cut) - l.count
+abbrev pub invariant-loop-q : goal.invariant-loop-q
+invariant-loop-q l = (l.notes.cut ≡ l.initial.notes.cut) × (l.count ≡ length (transit_below (state_at l.initial.notes.cut) (places l.initial.notes.cut) l.q))
+    × (l.area ≡ put_words l.initial.area 1 (messages_words (transit_below (state_at l.initial.notes.cut) (places l.initial.notes.cut) l.q))) × (length l.area ≡ length l.initial.area)
