@@ -14,7 +14,10 @@ use Rattle.xdr.proofs.Words.{words_length, words_get}
 use Rattle.rules.specs.Text.{decimal, further_fields}
 use Rattle.decimal.specs.Output.{Page, Writes}
 use Rattle.decimal.proofs.Texts.{Writing, writing_on}
-use Rattle.answers.specs.Shows.{shown, field_or}
+use Rattle.std.specs.Prelude.{Result, Ok, Err}
+use Rattle.std.specs.Result.{result_unwrap_or}
+use Rattle.answers.specs.declared.Refused.{Refused}
+use Rattle.answers.specs.Shows.{shown, field_or, count_of}
 
 -- of k fields, the first of them the numbers vs, the first i are written
 abbrev pub Written : Page → Page → List ℕ → ℕ → ℕ → Type 0
@@ -47,3 +50,7 @@ written_on before out out₁ count area k i h lt le put =
           (subst (λ (l : List ℕ). Writing before (further_fields k (shown count area)) (11 * i) out l)
           (ap (λ (j : ℕ). further_fields j (drop i (shown count area))) m ∙ next) h.1) put,
     )
+
+pub count_is : (r : Result ℕ Refused) → result_unwrap_or r 0 ≡ count_of r
+count_is (Ok k) = refl
+count_is (Err e) = refl

@@ -27,9 +27,6 @@ take_zeros zero k le = refl
 take_zeros (suc m) zero le = absurd (not-suc-le-zero le)
 take_zeros (suc m) (suc k) le = ap (λ (l : List ℕ). 0 ∷ l) (take_zeros m k (omega (arith, le)))
 
-pub area_length_lem : (area : List ℕ) → area ≡ replicate area_room 0 → length area ≡ area_room
-area_length_lem area e = ap length e ∙ length-replicate {A = ℕ} area_room 0
-
 shows_words : (r k : ℕ) (t a rest : List ℕ) → length a ≡ 4 * k → shown (cond (eqb r 0) k 0) (a ++ rest) ≡ answer_words (outcome r t a)
 shows_words r k t a rest e = either (eqb r 0)
   where
@@ -55,15 +52,4 @@ shows_called F {o} r k m t a area res e zeros f told len words small =
       left = ap (λ (x : Outcome). x.table) whole;
       words = ap (λ (c : ℕ). shown c (a ++ drop m area)) told.1 ∙ shows_words r k t a (drop m area) size ∙ ap answer_words whole;
       within = omega (arith, fit, size, length-append a (drop m area));
-    }
-
--- an outcome with an empty area has no words
-pub shows_none : {o : Outcome} (r : ℕ) (t area : List ℕ) (res : Result ℕ Refused) → outcome r t [] ≡ o → Told r 0 res → Shows o res t area
-shows_none r t area res e told =
-    let fit : 4 * count_of res ≤ 0 = subst (λ (c : ℕ). 4 * c ≤ 0) (sym told.1) (count_within (eqb r 0) 0) in
-    record {
-      number = told.0 ∙ ap (λ (x : Outcome). x.returned) e;
-      left = ap (λ (x : Outcome). x.table) e;
-      words = ap (λ (c : ℕ). shown c area) told.1 ∙ shows_words r 0 t [] area refl ∙ ap answer_words e;
-      within = omega (arith, fit);
     }

@@ -10,7 +10,8 @@ use answers::{Refused, told};
 use fields::Unreadable;
 use reading::Call;
 
-// Runs a line's call on a table of n processes, and answers how many words of the area it answered. The area is all 0.
+// Runs a line's call on a table of n processes, and answers how many words of the area it answered. The area is all 0. That n is at most 8 is
+// the type's of the table that the program holds; here and where an answer is written it is a number, and asked for.
 pub fn run(
     said: Result<Call, Unreadable>,
     n: usize,
@@ -20,10 +21,7 @@ pub fn run(
     requires { (n ≤ 8) × (area.old ≡ replicate area_room 0) }
     ensures { Shows (ran_of n table.old (reading_of said)) result table.new area.new }
 {
-    let Ok(call) = said else {
-        return Err(Refused::Line);
-    };
-    match call {
+    match said? {
         Call::Fresh { .. } => Err(Refused::Line),
         Call::Checkpoint { p } => told(engine::ckpt_checkpoint(table, &mut area[..4], p), 1),
         Call::Send { p, q } => told(engine::ckpt_send(table, &mut area[..8], p, q), 2),

@@ -8,7 +8,7 @@ use borrow.Author.Tests.{lt-ltb, le-ltb}
 use Rattle.rules.specs.Text.{decimal, last_digits}
 use Rattle.decimal.specs.Output.{Page, Writes, Digits}
 use Rattle.decimal.proofs.Powers.{power_pos}
-use Rattle.decimal.proofs.Texts.{writes_as, Writing, writing_starts, writing_on, writing_ends}
+use Rattle.decimal.proofs.Texts.{Writing, writing_starts, writing_on}
 
 -- ---- what the digits spell
 
@@ -64,10 +64,6 @@ spelling_on before out out₁ v k i d h pos e w = (
   writing_on (omega (arith, h.0, pos))
       (subst (λ (l : List ℕ). Writing before (decimal v) (k - i) out l) (spelled_next i v pos ∙ ap (λ (x : ℕ). x ∷ spelled (i - 1) v) (sym e)) h.1) w,
 )
-
-pub spelling_ends : (before out : Page) (v k i : ℕ) → Digits v k → Spelling before v k out i → i ≤ 0 → Writes before (decimal v) 10 out
-spelling_ends before out v k zero d h le = writes_as refl (omega (arith, d.1)) (writing_ends h.1)
-spelling_ends before out v k (suc i) d h le = absurd (not-suc-le-zero le)
 
 -- ---- a loop that counts digits
 

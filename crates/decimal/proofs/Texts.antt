@@ -3,7 +3,6 @@ use mathlib.Core.Path.{◌≡◌, refl, ◌∙◌, sym, ap}
 use mathlib.Core.List.{List, [], ◌++◌, append-nil, append_assoc}
 use Prim.Native.Nat.{ℕ, ◌+◌, ◌≤◌}
 use native.Mathlib.Omega.{arith}
-use native.Mathlib.Nat.{le_refl}
 use lib.ListN.{length, drop, length-append}
 use lib.Seq.{drop-drop}
 use Rattle.decimal.specs.Output.{Page, Writes}
@@ -12,10 +11,6 @@ use Rattle.decimal.specs.Output.{Page, Writes}
 
 pub writes_none : (out : Page) → Writes out [] 0 out
 writes_none out = record { room = refl; text = sym (append-nil out.written); rest = refl; most = omega arith }
-
--- the bytes that are left after it
-pub writes_room : {out out₁ : Page} {s : List ℕ} {m : ℕ} → Writes out s m out₁ → length out.rest ≤ length out₁.rest + m
-writes_room {out} {out₁} {s} h = omega (arith, h.room, h.most, ap length h.text, length-append out.written s)
 
 -- the same text, said otherwise, and with more bytes at most
 pub writes_as : {out out₁ : Page} {s t : List ℕ} {m n : ℕ} → s ≡ t → m ≤ n → Writes out s m out₁ → Writes out t n out₁
@@ -54,6 +49,3 @@ writing_starts before e = ([], e, writes_as refl (omega arith) (writes_none befo
 pub writing_on : {before out out₁ : Page} {s t left : List ℕ} {m n k : ℕ} → m + n ≤ k → Writing before s m out (t ++ left) → Writes out t n out₁
     → Writing before s k out₁ left
 writing_on {t = t} {left = left} le h w = (h.0 ++ t, append_assoc h.0 t left ∙ h.1, writes_both le h.2 w)
-
-pub writing_ends : {before out : Page} {s : List ℕ} {m : ℕ} → Writing before s m out [] → Writes before s m out
-writing_ends {m = m} h = writes_as (sym (append-nil h.0) ∙ h.1) (le_refl m) h.2

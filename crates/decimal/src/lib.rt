@@ -9,7 +9,7 @@ pub use output::Output;
 
 mod output;
 
-// A form that document 01 names for this place.
+// A list of powers, the form that document 01 names for this place.
 const POWERS: [u32; 10] = [
     1, 10, 100, 1000, 10000, 100000, 1000000, 10000000, 100000000, 1000000000,
 ];
@@ -33,7 +33,8 @@ fn count(v: u32) -> usize
     10
 }
 
-// The digit of v that stands for 10^i.
+// The digit of v that stands for 10^i, by the list: the library has no call for one digit.
+#[tactic(auto, using(crate::proofs::Powers::power_some))]
 fn digit(v: u32, i: usize) -> u8
     requires { i < 10 }
     ensures { result ≡ 48 + v / 10 ^ i % 10 }

@@ -3,7 +3,7 @@ ghost use Rattle.decimal.specs.Output.{Page, page, Writes};
 
 use std::marker::Model;
 
-// Text that is written to memory of the caller's. A clause sees what is written, and the bytes behind it.
+// Text that is written to memory of the caller's. A clause sees what is written, and the bytes behind it. No `Vec`: there is no heap.
 #[derive(Drop)]
 pub struct Output<'a> {
     bytes: &'a mut [u8],

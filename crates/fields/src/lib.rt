@@ -19,6 +19,7 @@ pub fn read_field(s: &[u8]) -> Result<Option<u32>, Unreadable>
     if s.len() > 10 {
         return Err(Unreadable);
     }
+    // No `parse`: it takes a sign.
     let mut v: u64 = 0;
     for b in s {
         if !b.is_ascii_digit() {
@@ -26,10 +27,7 @@ pub fn read_field(s: &[u8]) -> Result<Option<u32>, Unreadable>
         }
         v = 10 * v + u64::from(*b - b'0');
     }
-    match u32::try_from(v) {
-        Ok(v) => Ok(Some(v)),
-        Err(_) => Err(Unreadable),
-    }
+    u32::try_from(v).map(Some).or(Err(Unreadable))
 }
 
 // The bytes before the first comma, and those behind it.

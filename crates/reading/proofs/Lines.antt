@@ -7,11 +7,9 @@ use native.Mathlib.Omega.{arith}
 use lib.Dec.{leb, eqb}
 use lib.ListN.{length, get_or}
 use borrow.Author.Tests.{le-leb, lt-leb, ne_eqb}
-use Rattle.rules.specs.Text.{Word, fresh_word, checkpoint_word, send_word, receipt_word, line_word, failed_word, no_word, fresh_bytes, checkpoint_bytes, send_bytes, receipt_bytes, line_bytes, failed_bytes, word_of, Field, empty, number, other, Reading, unreadable, Ask, with_number, with_empty, one_number, two_numbers, three_numbers, asked, field_of, fields_from, read_line}
+use Rattle.rules.specs.Text.{Word, fresh_word, checkpoint_word, send_word, receipt_word, line_word, failed_word, no_word, word_of, Field, empty, number, other, Reading, unreadable, Ask, with_number, with_empty, one_number, two_numbers, three_numbers, asked, field_of, fields_from, read_line}
 use Rattle.std.specs.Prelude.{Result, Ok, Err}
 use Rattle.std.specs.Result.{IsErr}
-use lib.Pointwise.{pointwise}
-use Rattle.rules.specs.Compared.{same}
 use Rattle.fields.specs.declared.Unreadable.{Unreadable}
 use Rattle.reading.specs.declared.Call.{Call}
 use Rattle.reading.specs.Meanings.{reading_of}
@@ -57,26 +55,6 @@ four s w x y z le h =
     sym
     (ap (λ (a : Bool). cond (a && eqb (length (fields_from [] s)) 4) (said_by (fields_from [] s)) unreadable) (le-leb (length s) 64 le)
     ∙ ap (λ (l : List (List ℕ)). cond (eqb (length l) 4) (said_by l) unreadable) h)
-
--- ---- words
-
-same_is : (s t : List ℕ) {r : Bool} → r ≡ pointwise eqb s t → same s t ≡ r
-same_is [] [] e = sym e
-same_is [] (b ∷ t) e = sym e
-same_is (a ∷ s) [] e = sym e
-same_is (a ∷ s) (b ∷ t) e = ap (λ (x : Bool). eqb a b && x) (same_is s t refl) ∙ sym e
-
--- a text that is none of the words
-pub none_of : (s : List ℕ) → false ≡ pointwise eqb s fresh_bytes → false ≡ pointwise eqb s checkpoint_bytes → false ≡ pointwise eqb s send_bytes
-    → false ≡ pointwise eqb s receipt_bytes → false ≡ pointwise eqb s line_bytes → false ≡ pointwise eqb s failed_bytes → no_word ≡ word_of s
-none_of s a b c d e f =
-    sym
-    (skips _ _ (same_is s fresh_bytes a)
-    ∙ skips _ _ (same_is s checkpoint_bytes b)
-    ∙ skips _ _ (same_is s send_bytes c)
-    ∙ skips _ _ (same_is s receipt_bytes d)
-    ∙ skips _ _ (same_is s line_bytes e)
-    ∙ skips _ _ (same_is s failed_bytes f))
 
 -- ---- what can't be read
 

@@ -30,28 +30,20 @@ pub enum Call {
     Failed { mask: u32 },
 }
 
+// The word that these bytes are. No `TryFrom`: one line calls it.
+#[tactic(auto, using(crate::proofs::Words::words))]
 fn read_word(s: &[u8]) -> Result<Word, Unreadable>
     ensures { word_as result ≡ word_of s.now }
 {
-    if s == b"fresh".as_slice() {
-        return Ok(Word::Fresh);
+    match s {
+        b"fresh" => Ok(Word::Fresh),
+        b"checkpoint" => Ok(Word::Checkpoint),
+        b"send" => Ok(Word::Send),
+        b"receipt" => Ok(Word::Receipt),
+        b"line" => Ok(Word::Line),
+        b"failed" => Ok(Word::Failed),
+        _ => Err(Unreadable),
     }
-    if s == b"checkpoint".as_slice() {
-        return Ok(Word::Checkpoint);
-    }
-    if s == b"send".as_slice() {
-        return Ok(Word::Send);
-    }
-    if s == b"receipt".as_slice() {
-        return Ok(Word::Receipt);
-    }
-    if s == b"line".as_slice() {
-        return Ok(Word::Line);
-    }
-    if s == b"failed".as_slice() {
-        return Ok(Word::Failed);
-    }
-    Err(Unreadable)
 }
 
 // The call of a word with the fields x, y and z.
@@ -94,9 +86,7 @@ pub fn read_line(s: &[u8]) -> Result<Call, Unreadable>
     if s.len() > 64 {
         return Err(Unreadable);
     }
-    let Some((word, x, y, z)) = four_fields(s) else {
-        return Err(Unreadable);
-    };
+    let (word, x, y, z) = four_fields(s).ok_or(Unreadable)?;
     with_fields(
         read_word(word)?,
         read_field(x)?,

@@ -1,1 +1,2 @@
+pub mod Opened
 pub mod Replies

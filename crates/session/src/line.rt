@@ -8,7 +8,7 @@ use std::marker::Model;
 const LINE_ROOM: usize = 66;
 
 // The bytes of the line that has not ended. Of a line of 66 bytes and more the first 65 are held and the last: enough to know that it is
-// too long, and whether it ends in CR. A clause sees the bytes that are held.
+// too long, and whether it ends in CR. A clause sees the bytes that are held. Fixed memory: there is no heap.
 #[derive(Drop)]
 pub struct Line {
     bytes: [u8; LINE_ROOM],
@@ -53,6 +53,7 @@ impl Line {
     }
 
     // Holds a byte. In a line that is too long already it takes the place of the last.
+    #[tactic(auto, using(crate::proofs::Bytes::held_on))]
     pub fn hold(&mut self, byte: u8)
         ensures { self.new ≡ take 65 self.old ++ byte ∷ [] }
     {

@@ -43,6 +43,7 @@ pub fn finish(s: &mut Session, out: &mut Output)
 }
 
 // Whether the program is at its end, so that nothing more will be written.
+#[tactic(auto, using(crate::proofs::Sessions::owes_nothing))]
 pub fn ended(s: &Session) -> bool
     ensures { (result ≡ is_ended s.now.program) × (result ≡ true → (x : List ℕ) → owed_by s.now x ≡ []) }
 {
