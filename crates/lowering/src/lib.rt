@@ -35,7 +35,7 @@ fn lower<T: Test>(records: &Records, part: Part, test: &T) -> Part
 }
 
 // `Counted` is a clause of each function below that takes a cut: a struct of table and parts would have each say in its place that the cut
-// it returns is of the same table. So is that there is room for all notes: it is about the table and its caller's notes.
+// it returns is of the same table. Room for all notes is a clause too: it is about the table and its caller's notes.
 
 // ---- receipts that are orphans in every cut
 

@@ -1,9 +1,8 @@
 use mathlib.Core.List.{append-nil}
-use mathlib.Core.Path.{◌≡◌, refl, sym, ap, ◌∙◌}
+use mathlib.Core.Path.{◌≡◌, refl, sym, ◌∙◌}
 use native.Mathlib.Omega.{arith}
-use lib.ListN.{length, replicate, set}
+use lib.ListN.{length, replicate}
 use lib.Seq.{drop-length}
-use borrow.Author.Fill.{fill_none, fill_more}
 use Rattle.xdr.proofs.Puts.{two_puts}
 use Rattle.layout.proofs.Rows.{fresh_range, fresh_size, fresh_done}
 use Rattle.layout.proofs.fresh.Goals as goal
@@ -15,12 +14,6 @@ pub returns-then-t-size : goal.returns-then-t-size
 returns-then-t-size c = let a = c.args in
     let d = c.in-Some.ensures in
     fresh_size a.t.now a.n a.e d.0 (λ z. c.if-t-size.true (z ∙ sym (rw (d.1, d.2) at c.size.ensures)))
-
-pub loop-byte-init : goal.loop-byte-init
-loop-byte-init c = fill_none _ 0
-
-pub loop-byte-preserved : goal.loop-byte-preserved
-loop-byte-preserved c = ap (λ l. set l c.loop-byte.byte-index 0) c.loop-byte.invariant ∙ fill_more c.loop-byte.byte-index 0 c.args.t.now (omega arith)
 
 pub returns : goal.returns
 returns c = let a = c.args in
