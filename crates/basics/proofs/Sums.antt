@@ -1,9 +1,14 @@
 -- Laws of sums over numbers and over pairs of numbers.
 use mathlib.Core.Path.{◌≡◌, refl, sym, ap, ap₂, ◌∙◌}
 use mathlib.Core.Logic.{◌≢◌, ◌⊎◌, inl, inr}
-use Prim.Native.Nat.{ℕ, zero, suc, ◌+◌, ◌≤◌, ◌<◌}
+use mathlib.Core.List.{map}
+use Prim.Native.Nat.{ℕ, zero, suc, ◌+◌, ◌*◌, ◌≤◌, ◌<◌}
+use native.Mathlib.Nat.{suc-mul}
+use native.Mathlib.Numerals.{add-one}
 use native.Mathlib.Omega.{arith}
-use native.Mathlib.Decide.{dec_lt}
+use native.Mathlib.Decide.{dec_lt, ℕ_discrete}
+use Rattle.std.specs.List.{sum, range_with_len}
+use Rattle.std.proofs.lemmas.List.FromFn.{sum_by-map-range_with_len_more}
 use Rattle.basics.specs.Sums.{sum_below, sum_pairs}
 
 pub sum_same : (f g : ℕ → ℕ) (n : ℕ) → ((i : ℕ) → i < n → f i ≡ g i) → sum_below f n ≡ sum_below g n
@@ -30,6 +35,41 @@ sum_one f (suc n) i lt e = go (dec_lt i n) (λ l. sum_one f n i l (λ j lj ne. e
         let z = sum_none f n (λ j lj. e j (omega arith) (omega arith)) in
         let w = ap f is in
         omega arith
+
+-- two sums that differ at one index
+pub sum_but : (f g : ℕ → ℕ) (n p : ℕ) → p < n → ((i : ℕ) → i < n → i ≢ p → f i ≡ g i) → sum_below f n + g p ≡ sum_below g n + f p
+sum_but f g zero p lt e = absurd (omega arith)
+sum_but f g (suc n) p lt e = go (ℕ_discrete p n) (sum_but f g n p)
+  where
+    go : Dec (p ≡ n) → (p < n → ((i : ℕ) → i < n → i ≢ p → f i ≡ g i) → sum_below f n + g p ≡ sum_below g n + f p)
+        → sum_below f (suc n) + g p ≡ sum_below g (suc n) + f p
+    go (yes x) r = let s = sum_same f g n (λ i l. e i (omega arith) (omega arith)) in rw (x, s) (omega arith)
+    go (no ne) r =
+        let a = r (omega arith) (λ i l. e i (omega arith)) in
+        let b = e n (omega arith) (λ z. ne (sym z)) in
+        omega arith
+
+pub sum_zero : (f : ℕ → ℕ) (n : ℕ) → sum_below f n ≡ 0 → (i : ℕ) → i < n → f i ≡ 0
+sum_zero f zero e i lt = absurd (omega arith)
+sum_zero f (suc n) e i lt = go (ℕ_discrete i n) (sum_zero f n (omega arith) i)
+  where
+    go : Dec (i ≡ n) → (i < n → f i ≡ 0) → f i ≡ 0
+    go (yes x) r = rw x (omega arith)
+    go (no ne) r = r (omega arith)
+
+pub sum_most : (f : ℕ → ℕ) (m n : ℕ) → ((i : ℕ) → i < n → f i ≤ m) → sum_below f n ≤ n * m
+sum_most f m zero e = omega arith
+sum_most f m (suc n) e =
+    let r = sum_most f m n (λ i l. e i (omega arith)) in
+    let a = e n (omega arith) in
+    omega (arith, suc-mul n m)
+
+-- of an iterator over a range
+pub sum_mapped : (f : ℕ → ℕ) (n : ℕ) → sum (map f (range_with_len 0 n)) ≡ sum_below f n
+sum_mapped f zero = refl
+sum_mapped f (suc n) =
+    ap (λ (m : ℕ). sum (map f (range_with_len 0 m))) (sym (add-one n))
+    ∙ (sum_by-map-range_with_len_more (λ (x : ℕ). x) f 0 n n (omega arith) ∙ ap (λ (x : ℕ). x + f n) (sum_mapped f n))
 
 -- the order of two sums
 pub sum_swap : (f : ℕ → ℕ → ℕ) (n m : ℕ) → sum_below (λ i. sum_below (f i) m) n ≡ sum_below (λ j. sum_below (λ i. f i j) n) m

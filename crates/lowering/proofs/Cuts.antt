@@ -4,13 +4,15 @@ use mathlib.Core.Logic.{◌≢◌}
 use mathlib.Core.Bool.{Bool, true, false, not}
 use mathlib.Core.List.Memᴰ
 use mathlib.Core.List.{List, [], Memᴰ}
-use Prim.Native.Nat.{ℕ, zero, suc, ◌+◌, ◌%◌, ◌≤◌, ◌<◌}
+use Prim.Native.Nat.{ℕ, ◌+◌, ◌%◌, ◌≤◌, ◌<◌}
 use native.Mathlib.Nat.{le_refl, le_trans, mod-eq_of_lt}
 use native.Mathlib.Omega.{arith}
 use native.Mathlib.Decide.{dec_lt, ℕ_discrete}
 use lib.ListN.{length, get_or, set, length-set, get_or-eq_default}
 use lib.Seq.{get_or-set_same, get_or-set_other}
 use borrow.Author.Tests.{ltb-false, le-ltb, not-false}
+use Rattle.basics.specs.Sums.{sum_below}
+use Rattle.basics.proofs.Sums.{sum_but}
 use Rattle.rules.specs.Records.{Event, basic, forced, sent, received, History, State, history, sends, has_send}
 use Rattle.rules.specs.Lines.{upto, part, orphan, NoOrphan, failed, permitted, Permitted}
 use Rattle.rules.specs.FailureLine.{any, lowered, each_from, failure_line}
@@ -23,8 +25,7 @@ use Rattle.tops.specs.Tops.{Counted, Over}
 
 -- the sum of the first p positions
 abbrev pub total : List ℕ → ℕ → ℕ
-total position zero = 0
-total position (suc p) = total position p + get_or position p 0
+total position = sum_below (λ p. get_or position p 0)
 
 -- no process has records but those of the state
 beyond : (s : State) (q : ℕ) → length s ≤ q → history s q ≡ []
@@ -77,28 +78,10 @@ module _ (s : State) (P : List ℕ) (p : ℕ) (wide : p < length P) (v : ℕ) wh
       counted q lq (no ne) = get_or-set_other S p q k 0 ne ∙ C.counted q lq ∙ ap sends (sym (part_other q ne))
 
   -- the sum of positions falls by as much as this one
-  total_same : (n : ℕ) → n ≤ p → total (set P p v) n ≡ total P n
-  total_same zero le = refl
-  total_same (suc n) le =
-      let a = total_same n (omega arith) in
-      let b = get_or-set_other P p n v 0 (λ e. absurd (omega arith)) in
-      omega arith
-
   pub set_total : (n : ℕ) → p < n → total (set P p v) n + get_or P p 0 ≡ total P n + v
-  set_total zero lt = absurd (omega arith)
-  set_total (suc n) lt = go (ℕ_discrete p n) (set_total n)
-    where
-      go : Dec (p ≡ n) → (p < n → total (set P p v) n + get_or P p 0 ≡ total P n + v)
-          → total (set P p v) n + get_or (set P p v) n 0 + get_or P p 0 ≡ total P n + get_or P n 0 + v
-      go (yes e) f =
-          let a = total_same n (omega arith) in
-          let b : get_or (set P p v) n 0 ≡ v = ap (λ (x : ℕ). get_or (set P p v) x 0) (sym e) ∙ get_or-set_same P p v 0 wide in
-          let d : get_or P p 0 ≡ get_or P n 0 = ap (λ (x : ℕ). get_or P x 0) e in
-          omega arith
-      go (no ne) f =
-          let a = f (omega arith) in
-          let b = get_or-set_other P p n v 0 (λ e. ne (sym e)) in
-          omega arith
+  set_total n lt =
+      sum_but (λ q. get_or (set P p v) q 0) (λ q. get_or P q 0) n p lt (λ q lq ne. get_or-set_other P p q v 0 ne)
+      ∙ ap (λ (x : ℕ). total P n + x) (get_or-set_same P p v 0 wide)
 
 -- the test holds for no record of p in a permitted cut without orphans
 abbrev pub Fair : State → List ℕ → ℕ → (Event → Bool) → Type 0

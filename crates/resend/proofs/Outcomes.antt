@@ -1,11 +1,8 @@
 -- The rows behind those of the table, and the outcome.
 use mathlib.Core.Path.{◌≡◌, refl, sym, ap, ◌∙◌}
 use mathlib.Core.Bool.{Bool, true, false}
-use mathlib.Core.List.{List, [], ◌∷◌, ◌++◌, map}
-use Rattle.std.specs.List.{sum, range_with_len}
-use Rattle.std.proofs.lemmas.List.FromFn.{sum_by-map-range_with_len_more}
-use Prim.Native.Nat.{ℕ, zero, suc, ◌+◌, ◌*◌}
-use native.Mathlib.Numerals.{add-one}
+use mathlib.Core.List.{List, [], ◌∷◌, ◌++◌}
+use Prim.Native.Nat.{ℕ, ◌+◌, ◌*◌}
 use native.Mathlib.Omega.{arith}
 use lib.Dec.{leb, ltb}
 use lib.ListN.{length}
@@ -20,7 +17,6 @@ use Rattle.std.specs.Prelude.{Result}
 use Rattle.std.specs.Result.{IsErrAnd}
 use Rattle.rules.specs.Table.{decoded}
 use Rattle.layout.proofs.Refused.{refused, refused_outcome}
-use Rattle.rules.specs.Records.{State, history, sends}
 use Rattle.refusals.specs.declared.Refusal.{Refusal}
 use Rattle.refusals.specs.Refusals.{number_of, returned}
 use Rattle.layout.specs.declared.Table.{Table}
@@ -29,14 +25,7 @@ use Rattle.notes.specs.declared.cut.Cut.{Cut}
 use Rattle.notes.specs.Cuts.{cut_rows}
 use Rattle.notes.specs.Noted.{state_at, places}
 use Rattle.notes.proofs.Places.{cut_at}
-use Rattle.transit.specs.Transit.{sends_below, transit_at}
-
--- the sends of all processes, added up
-pub sum_of_sends : (s : State) (n : ℕ) → sum (map (λ p. sends (history s p)) (range_with_len 0 n)) ≡ sends_below s n
-sum_of_sends s zero = refl
-sum_of_sends s (suc n) =
-    ap (λ (m : ℕ). sum (map (λ p. sends (history s p)) (range_with_len 0 m))) (sym (add-one n))
-    ∙ (sum_by-map-range_with_len_more (λ (x : ℕ). x) (λ p. sends (history s p)) 0 n n (omega arith) ∙ ap (λ (x : ℕ). x + sends (history s n)) (sum_of_sends s n))
+use Rattle.transit.specs.Transit.{transit_at}
 
 -- the first row met
 abbrev pub row_met : List ℕ → List ℕ → List ℕ → ℕ

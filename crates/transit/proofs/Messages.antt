@@ -10,7 +10,7 @@ use borrow.Author.Tests.{lt-ltb, le-ltb}
 use Rattle.std.proofs.lemmas.List.{take-append-drop}
 use Rattle.std.proofs.lemmas.List.Sums.{sum_by-cons}
 use Rattle.std.specs.List.{count_by}
-use Rattle.rules.specs.Records.{State, history}
+use Rattle.rules.specs.Records.{State, history, sends}
 use Rattle.rules.specs.Resend.{Message, message, transit_below, in_transit}
 use Rattle.records.proofs.Histories.{sends_older}
 use Rattle.records.proofs.Cuts.{upto_is_older}
@@ -22,8 +22,9 @@ use Rattle.notes.specs.declared.cut.Cut.{Cut}
 use Rattle.notes.specs.Noted.{state_at, places, is_left, left_one, left_in, sent_by, messages_of}
 use Rattle.notes.proofs.Places.{sends_short}
 use Rattle.notes.proofs.Messages.{left_in_append, left_in_next}
+use Rattle.basics.proofs.Sums.{sum_most}
 use Rattle.transit.specs.Transit.{transit_at, sends_below}
-use Rattle.transit.proofs.Numbers.{transit_sends, sends_few, below_mono}
+use Rattle.transit.proofs.Numbers.{transit_sends, below_mono}
 
 -- ---- the notes of one sender
 
@@ -64,7 +65,7 @@ module _ (q : ℕ) (to : List ℕ) (k : ℕ) (lt : k < length to) where
 
 pub few_sends : (t : Table) → sends_below (state_of t) t.n ≤ 16384
 few_sends t =
-    let m = sends_few (state_of t) t.e (sends_short t) t.n in
+    let m = sum_most (λ q. sends (history (state_of t) q)) t.e t.n (λ q lt. sends_short t q) in
     let k = product t.n t.e t.laid.3 t.laid.4 in
     omega arith
 

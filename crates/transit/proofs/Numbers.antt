@@ -3,7 +3,7 @@ use mathlib.Core.Path.{◌≡◌, refl, ap}
 use mathlib.Core.Bool.{Bool, true, false, cond}
 use mathlib.Core.List.{List, [], ◌∷◌, ◌++◌}
 use Prim.Native.Nat.{ℕ, zero, suc, ◌+◌, ◌*◌, ◌≤◌, zero-le}
-use native.Mathlib.Nat.{suc-mul, le_refl}
+use native.Mathlib.Nat.{le_refl}
 use native.Mathlib.Omega.{arith}
 use lib.ListN.{length, length-append, get_or}
 use Rattle.xdr.specs.Words.{put_words}
@@ -46,10 +46,6 @@ module _ (s : State) (cut : List ℕ) where
       let r = below_mono q x in
       let l = length-append (transit_below s cut (q + x)) (transit_of s cut (q + x) (sends (part s cut (q + x)))) in
       rw e (omega arith)
-
-pub sends_few : (s : State) (E : ℕ) → ((q : ℕ) → sends (history s q) ≤ E) → (q : ℕ) → sends_below s q ≤ q * E
-sends_few s E short zero = zero-le
-sends_few s E short (suc q) = let r = sends_few s E short q in let a = short q in let e = suc-mul q E in omega arith
 
 -- ---- written
 

@@ -1,5 +1,6 @@
 -- The messages in transit at a cut, and how many they may be.
-use Rattle.std.specs.Prelude.{List, ℕ, zero, suc, ◌+◌}
+use Rattle.std.specs.Prelude.{List, ℕ}
+use Rattle.basics.specs.Sums.{sum_below}
 use Rattle.rules.specs.Records.{State, history, sends}
 use Rattle.rules.specs.Resend.{Message, in_transit}
 use Rattle.notes.specs.declared.cut.Cut.{Cut}
@@ -11,5 +12,4 @@ transit_at c = in_transit (state_at c) (places c)
 
 -- how many sends the processes below q have made, inside the cut and after it
 abbrev pub sends_below : State → ℕ → ℕ
-sends_below s zero = 0
-sends_below s (suc q) = sends_below s q + sends (history s q)
+sends_below s = sum_below (λ q. sends (history s q))

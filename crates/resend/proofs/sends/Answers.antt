@@ -5,13 +5,13 @@ use Rattle.std.proofs.lemmas.Iterator.Consumers.{sum_from_yields_List, fits_from
 use Rattle.rules.specs.Records.{history, sends}
 use Rattle.layout.specs.Tables.{state_of}
 use Rattle.transit.proofs.Messages.{few_sends}
-use Rattle.resend.proofs.Outcomes.{sum_of_sends}
+use Rattle.basics.proofs.Sums.{sum_mapped}
 use Rattle.resend.proofs.sends.Goals as goal
 
 pub sum-requires-clause-fits : goal.sum-requires-clause-fits
 sum-requires-clause-fits c = let t = c.args.table.now in
     let few = few_sends t in
-    let total = sum_of_sends (state_of t) t.n in
+    let total = sum_mapped (λ p. sends (history (state_of t) p)) t.n in
     fits_from_yields_list c.map.result 18446744073709551616
     (YieldsList-from_map _ (λ p. sends (history (state_of t) p)) (YieldsList-from_range 0 t.n t.n c.map.ensures.source (omega arith)) c.map.ensures.closure (λ x r q k. search rules))
     (omega arith)
@@ -21,5 +21,5 @@ returns c = let t = c.args.table.now in
     let few = few_sends t in
     let total = sum_from_yields_List c.map.result c.sum.result c.sum.ensures.ran
     (YieldsList-from_map _ (λ p. sends (history (state_of t) p)) (YieldsList-from_range 0 t.n t.n c.map.ensures.source (omega arith)) c.map.ensures.closure (λ x r q k. search rules))
-    ∙ sum_of_sends (state_of t) t.n in
+    ∙ sum_mapped (λ p. sends (history (state_of t) p)) t.n in
     (total, omega arith)
