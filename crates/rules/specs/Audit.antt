@@ -1,6 +1,6 @@
 -- Document 02, slip 5: whether some run leaves a table's bytes, computed: the calls that its records name are made once more, each process
--- as far as it goes, and what they leave is compared with it. What the document says is MadeByCalls in Lists.antt, and that alone has to be
--- believed; that this computes it is still to be shown.
+-- as far as it goes, and what they leave is compared with it. That this computes what the document says, for every table, is the theorem
+-- stated in theorems/specs/Audited.antt.
 use Rattle.std.specs.Prelude.{Bool, not, cond, List, [], ◌∷◌, ◌++◌, map, ℕ, zero, suc, eqb, length, replicate}
 use Rattle.std.proofs.Math.Option.{Option, none, some}
 use Rattle.xdr.specs.Words.{word}
@@ -37,12 +37,12 @@ due h i = call_of (record_at (suc i) h) (record_at (suc (suc i)) h)
 -- ---- made once more: s are the records of the table, c those that were made so far
 
 -- an entry that is lent an area of the exact length
-abbrev pub asked : ℕ → Call → Entry
-asked p call = entry p call (replicate (area_length call) 0)
+abbrev pub with_area : ℕ → Call → Entry
+with_area p call = entry p call (replicate (area_length call) 0)
 
 -- process p makes the call that comes next; one that is refused adds nothing
 unfoldable pub advance : ℕ → ℕ → State → State → ℕ → State
-advance n E s c p = run n E c (map (asked p) (due (history s p) (length (history c p))))
+advance n E s c p = run n E c (map (with_area p) (due (history s p) (length (history c p))))
 
 -- so do the processes below p, one after the other
 unfoldable pub sweep : ℕ → ℕ → State → ℕ → State → State

@@ -1,6 +1,6 @@
 -- Document 02, slip 5, worked: tables that a run leaves, and well laid ones that none does.
-use Rattle.std.specs.Prelude.{◌≡◌, refl, Bool, true, List, [], ◌∷◌, map, ℕ, length, replicate}
-use Rattle.xdr.specs.Words.{word, put_word, put_words, bytes}
+use Rattle.std.specs.Prelude.{◌≡◌, refl, true, List, [], ◌∷◌, map, ℕ, length, replicate}
+use Rattle.xdr.specs.Words.{word, put_word, put_words}
 use Rattle.rules.specs.Records.{basic, forced, sent, received, State}
 use Rattle.rules.specs.Table.{layout, decoded, well_laid}
 use Rattle.rules.specs.Calls.{Outcome}
