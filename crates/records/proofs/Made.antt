@@ -91,10 +91,10 @@ carried_le (sent q ∷ h) k r = go (eqb k (suc (sends h))) (carried_le h k r.1)
 
 -- ---- how many records there are in all
 
-pub total : State → ℕ
+unfoldable pub total : State → ℕ
 total s = sum (map length s)
 
-total_set : (s : State) (p : ℕ) (g : History) → p < length s → total (set s p g) + length (history s p) ≡ total s + length g
+pub total_set : (s : State) (p : ℕ) (g : History) → p < length s → total (set s p g) + length (history s p) ≡ total s + length g
 unfolding total
 total_set [] p g lt = absurd (not-suc-le-zero lt)
 total_set (h ∷ s) zero g lt = omega arith

@@ -131,6 +131,16 @@ grown_length h (receipt q k) c = go (forces h c)
     go true = omega arith
     go false = omega arith
 
+-- a call adds a record at least
+pub grown_longer : (h : History) (call : Call) (c : ℕ) → length h < length (grown h call c)
+grown_longer h checkpoint c = omega arith
+grown_longer h (send q) c = omega arith
+grown_longer h (receipt q k) c = go (forces h c)
+  where
+    go : (b : Bool) → length h < suc (length ((cond b (forced c ∷ []) [] ++ h)))
+    go true = omega arith
+    go false = omega arith
+
 -- a receipt's record is the last one then, behind a forced checkpoint where it forces
 pub receipt_place : (h : History) (q k c : ℕ) → length (grown h (receipt q k) c) ≡ length h + 1 + cond (forces h c) 1 0
 receipt_place h q k c = grown_length h (receipt q k) c ∙ go (forces h c)

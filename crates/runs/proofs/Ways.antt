@@ -12,7 +12,7 @@ use Rattle.rules.specs.Table.{fresh}
 use Rattle.rules.specs.Steps.{Call, checkpoint, send, receipt, carries, grown, stepped}
 use Rattle.rules.specs.Calls.{Row, row, first, needed, number_rows}
 use Rattle.rules.specs.Lists.{Entry, check, accepts, after, run}
-use Rattle.rules.specs.Audit.{asked}
+use Rattle.rules.specs.Audit.{with_area}
 use Rattle.basics.proofs.Older.{Older, none_older, older_length}
 use Rattle.records.proofs.Steps.{Accepted, Message, history_fresh, each_step, grown_length}
 use Rattle.records.proofs.Made.{Sound, made, never_ten}
@@ -47,15 +47,15 @@ tens_none (row r true ∷ rs) t f = absurd (f t.0)
 tens_none (row r false ∷ rs) t f = tens_none rs t.1 f
 
 -- what an accepted call has met is enough for it to be accepted: row 10 is never met
-check_asked : (n E : ℕ) (s : State) → Sound n E s → (p : ℕ) (call : Call) → Accepted n E s p call → check n E s (asked p call) ≡ 0
+check_unmet : (n E : ℕ) (s : State) → Sound n E s → (p : ℕ) (call : Call) → Accepted n E s p call → check n E s (with_area p call) ≡ 0
 unfolding check
-check_asked n E s M p checkpoint A =
+check_unmet n E s M p checkpoint A =
     let free = le-ltb E (length (history s p) + 1) A.free in
-    let unmet = never_ten n E s (asked p checkpoint) M in
+    let unmet = never_ten n E s (with_area p checkpoint) M in
     rw (lt-leb n p A.within, free) (tens_none (number_rows n E (history s p) checkpoint) (refl, tt) (rw (lt-leb n p A.within, free) at unmet))
-check_asked n E s M p (send q) A =
+check_unmet n E s M p (send q) A =
     rw (lt-leb n p A.within, lt-leb n q A.message.0, ne_eqb q p A.message.1, le-ltb E (length (history s p) + 1) A.free)
-check_asked n E s M p (receipt q k) A =
+check_unmet n E s M p (receipt q k) A =
     rw (
       lt-leb n p A.within,
       lt-leb n q A.message.0,
@@ -65,8 +65,8 @@ check_asked n E s M p (receipt q k) A =
       le-ltb E (length (history s p) + needed (history s p) (receipt q k) (carries s (receipt q k))) A.free,
     )
 
-pub accepted_accepts : (n E : ℕ) (s : State) → Sound n E s → (p : ℕ) (call : Call) → Accepted n E s p call → accepts n E s (asked p call) ≡ true
-accepted_accepts n E s M p call A = eq-eqb (check n E s (asked p call)) 0 (check_asked n E s M p call A)
+pub accepted_accepts : (n E : ℕ) (s : State) → Sound n E s → (p : ℕ) (call : Call) → Accepted n E s p call → accepts n E s (with_area p call) ≡ true
+accepted_accepts n E s M p call A = eq-eqb (check n E s (with_area p call)) 0 (check_unmet n E s M p call A)
 
 run_append : (n E : ℕ) (s : State) (l r : List Entry) → run n E s (l ++ r) ≡ run n E (run n E s l) r
 run_append n E s [] r = refl
@@ -79,7 +79,7 @@ made_more n E s r m =
 
 made_one : (n E : ℕ) (s : State) (p : ℕ) (call : Call) → MadeState n E s → Accepted n E s p call → MadeState n E (stepped s p call)
 made_one n E s p call m A =
-    subst (MadeState n E) (rw (accepted_accepts n E s (sound m) p call A)) (made_more n E s (asked p call ∷ []) m)
+    subst (MadeState n E) (rw (accepted_accepts n E s (sound m) p call A)) (made_more n E s (with_area p call ∷ []) m)
 
 -- ---- on the way
 

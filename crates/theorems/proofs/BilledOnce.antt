@@ -27,12 +27,13 @@ use Rattle.theorems.specs.Latest.{Answered}
 use Rattle.theorems.specs.SentAgain.{IsCut}
 use Rattle.theorems.specs.BilledOnce.{amount_received, amount_listed, all_sent, all_received, all_listed, only, BilledAt, BilledOnce}
 use Rattle.records.proofs.Histories.{Held, holds_held, Each, each_older}
-use Rattle.records.proofs.Made.{New}
+use Rattle.records.proofs.Made.{New, Sound}
 use Rattle.records.proofs.Cuts.{upto_is_older, permitted_le}
 use Rattle.records.proofs.NumberedLines.{position, numbered_le, line_clean}
 use Rattle.records.proofs.Rows.{first_none}
 use Rattle.records.proofs.Transit.{part_beyond, sends_within, receipt_there, sum_transit}
 use Rattle.tables.proofs.WellLaid.{decoded_count}
+use Rattle.runs.proofs.Ways.{sound}
 use Rattle.theorems.proofs.SentAgain.{at_cut, list_is}
 use Rattle.theorems.proofs.Demand2.{latest}
 use Rattle.theorems.proofs.Demand3.{unmet_rows, line_said, Holds, made_holds}
@@ -174,20 +175,23 @@ module _ (n E : ℕ) (t : List ℕ) (H : Holds n E t) where
   abbrev s : State
   s = decoded t
 
+  M : Sound n E s
+  M = sound H.made
+
   laid : first (table_rows t) ≡ 0
-  laid = subst (λ (x : List ℕ). first (table_rows x) ≡ 0) (sym H.is) (first_none (table_rows (layout n E s)) (unmet_rows n E H.range s H.sound))
+  laid = subst (λ (x : List ℕ). first (table_rows x) ≡ 0) (sym H.is) (first_none (table_rows (layout n E s)) (unmet_rows n E H.range s M))
 
   processes : word t 0 ≡ n
-  processes = sym (decoded_count t) ∙ H.sound.size
+  processes = sym (decoded_count t) ∙ M.size
 
   -- at a line whose words are answered
   at_line : (cut : List ℕ) → length cut ≡ n → ((p : ℕ) → p < n → get_or cut p 0 ≤ length (history s p)) → NoOrphan s cut → BilledAt t (bytes cut)
   at_line cut size within clean =
       let few = H.range.records in
       let is : words (bytes cut) ≡ cut =
-      words_bytes cut (all_small cut (λ p lt. let a = within p (omega arith) in let b = H.sound.short p in omega arith))
+      words_bytes cut (all_small cut (λ p lt. let a = within p (omega arith) in let b = M.short p in omega arith))
       in
-      billed_at t (bytes cut) laid H.sound.single
+      billed_at t (bytes cut) laid M.single
       (record { size = (let a = bytes_length cut in let b = processes in omega arith); within = λ p lt. rw is (within p (let b = processes in omega arith)) })
       (rw is clean)
 
@@ -196,7 +200,7 @@ module _ (n E : ℕ) (t : List ℕ) (H : Holds n E t) where
   at_answered mask a A =
       let cut = A.cut in
       let rest = A.back ∷ ones A.back ∷ [] in
-      let many = H.sound.size in
+      let many = M.size in
       let size : length cut ≡ n = A.line.permit.size ∙ many in
       let wide : length (bytes cut) ≡ 4 * n = bytes_length cut ∙ ap (λ (k : ℕ). 4 * k) size in
       let is : take (4 * n) (failed_on t a mask).area ≡ bytes cut =
@@ -210,12 +214,12 @@ module _ (n E : ℕ) (t : List ℕ) (H : Holds n E t) where
   at_numbered : (N : ℕ) (a : List ℕ) → length a ≡ 4 * n → BilledAt t (line_on t a N).area
   at_numbered N a len =
       let is : (line_on t a N).area ≡ bytes (numbered_line N s) =
-      ap (λ (x : List ℕ). (line_on x a N).area) H.is ∙ ap (λ (o : Outcome). o.area) (line_said n E H.range s H.sound N a len)
+      ap (λ (x : List ℕ). (line_on x a N).area) H.is ∙ ap (λ (o : Outcome). o.area) (line_said n E H.range s M N a len)
       in
-      rw is (at_line (numbered_line N s) (length-map s (numbered N) ∙ H.sound.size) (λ p lp. rw (position N s p) (numbered_le N (history s p)))
-      (line_clean n E s H.sound N))
+      rw is (at_line (numbered_line N s) (length-map s (numbered N) ∙ M.size) (λ p lp. rw (position N s p) (numbered_le N (history s p)))
+      (line_clean n E s M N))
 
 pub billed_once : BilledOnce
 billed_once n E t M =
     let H = made_holds n E t M in
-    record { anywhere = λ positions. billed_at t positions (laid n E t H) H.sound.single; failure = at_failure n E t H; numbered = at_numbered n E t H }
+    record { anywhere = λ positions. billed_at t positions (laid n E t H) (sound H.made).single; failure = at_failure n E t H; numbered = at_numbered n E t H }

@@ -22,6 +22,7 @@ use Rattle.records.proofs.Made.{Sound, made, made_after, made_fresh, never_ten}
 use Rattle.records.proofs.NumberedLines.{position, numbered_le, line_clean}
 use Rattle.tables.proofs.Laid.{layout_n, layout_e, layout_length, layout_ok, layout_decoded}
 use Rattle.tables.proofs.Ranges.{InRange, in_range_lem}
+use Rattle.runs.proofs.Ways.{MadeState}
 use Rattle.theorems.proofs.SameCalls.{same_state}
 
 -- ---- calls on the table of a made state
@@ -46,7 +47,7 @@ module _ (n E : ℕ) (d : InRange n E) where
           ),
         )
 
-    entry_said : (e : Entry) → entry_on (layout n E s) e ≡ said n E s e
+    pub entry_said : (e : Entry) → entry_on (layout n E s) e ≡ said n E s e
     unfolding step_on said check
     entry_said (entry p call area) =
         let t = layout n E s in
@@ -88,7 +89,7 @@ module _ (n E : ℕ) (d : InRange n E) where
   table_run [] s M = refl
   table_run (e ∷ l) s M = ap (λ (t : List ℕ). table_after t l) (entry_table s M e) ∙ table_run l (after n E s e) (made_after n E s e M)
 
-  small_line : (N : ℕ) (s : State) → ((p : ℕ) → length (history s p) ≤ E) → Small (numbered_line N s)
+  pub small_line : (N : ℕ) (s : State) → ((p : ℕ) → length (history s p) ≤ E) → Small (numbered_line N s)
   small_line N s short =
       let few = d.records in
       all_small (numbered_line N s) (λ p lt. rw (position N s p) (let a = numbered_le N (history s p) in let b = short p in omega arith))
@@ -127,7 +128,7 @@ both n E d l₁ l₂ =
     }
 
 -- an accepted fresh call
-fresh_accepted : (lent : List ℕ) (n E : ℕ) → (fresh_on lent n E).returned ≡ 0 → InRange n E × ((fresh_on lent n E).table ≡ layout n E (fresh n))
+pub fresh_accepted : (lent : List ℕ) (n E : ℕ) → (fresh_on lent n E).returned ≡ 0 → InRange n E × ((fresh_on lent n E).table ≡ layout n E (fresh n))
 unfolding fresh_on
 fresh_accepted lent n E r =
     let rows = row 1 (not (in_range n E)) ∷ row 2 (not (eqb (length lent) (size n E))) ∷ [] in
@@ -138,7 +139,7 @@ fresh_accepted lent n E r =
 -- a table made by accepted calls holds a state that a list of calls makes
 pub record Holds (n E : ℕ) (t : List ℕ) : Type 0 where
   pub range : InRange n E
-  pub sound : Sound n E (decoded t)
+  pub made : MadeState n E (decoded t)
   pub is : t ≡ layout n E (decoded t)
 
 pub made_holds : (n E : ℕ) (t : List ℕ) → MadeByCalls n E t → Holds n E t
@@ -148,7 +149,7 @@ made_holds n E t M =
     let S = made n E M.list in
     let e : t ≡ layout n E s = sym M.leaves ∙ ap (λ (x : List ℕ). table_after x M.list) a.1 ∙ (after_list n E a.0 M.list).left in
     let d : decoded t ≡ s = ap decoded e ∙ layout_decoded n E a.0 s S in
-    record { range = a.0; sound = rw d S; is = rw d e }
+    record { range = a.0; made = record { list = M.list; leaves = sym d }; is = rw d e }
 
 pub two_lists : TwoLists
 two_lists n E lent₁ lent₂ l₁ l₂ r₁ r₂ =

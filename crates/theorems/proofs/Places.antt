@@ -2,52 +2,25 @@
 use mathlib.Core.Path.{◌≡◌, refl, sym, ap, ap₂, ◌∙◌}
 use mathlib.Core.Bool.{Bool, true, false, cond}
 use mathlib.Core.List.{List, [], ◌∷◌, ◌++◌}
-use mathlib.Core.Option.{some, none-ne-some, some-injective}
+use mathlib.Core.Option.{some}
 use Prim.Native.Nat.{ℕ, suc, ◌+◌, ◌<◌}
 use native.Mathlib.Omega.{arith}
 use lib.Dec.{ltb, eqb}
 use lib.ListN.{length}
-use borrow.Author.Tests.{eqb-true, eq-eqb, ne_eqb}
 use Rattle.xdr.specs.Words.{word}
 use Rattle.xdr.proofs.Puts.{whole_put}
-use Rattle.rules.specs.Records.{Event, sent, forced, History, history, number, sends, carried, send_place}
+use Rattle.rules.specs.Records.{sent, forced, History, history, number, sends, carried, send_place}
 use Rattle.rules.specs.Table.{layout, decoded}
 use Rattle.rules.specs.Steps.{receipt, grown, stepped}
 use Rattle.rules.specs.Lines.{upto}
 use Rattle.rules.specs.Calls.{first, table_rows, step_rows, answer, step_on}
-use Rattle.theorems.specs.Places.{record_at, SendAt, Places, OneAnswer}
-use Rattle.basics.proofs.Booleans.{Test, passes, fails, test}
-use Rattle.basics.proofs.Older.{Older, same, newer, older_length}
-use Rattle.records.proofs.Histories.{of_send_at, carried_at, Held, holds_held, send_of}
+use Rattle.theorems.specs.Places.{SendAt, Places, OneAnswer}
+use Rattle.basics.proofs.Older.{same}
+use Rattle.records.proofs.Histories.{at_older, found, of_send_at, carried_at, Held, holds_held, send_of}
 use Rattle.records.proofs.NumberedLines.{upto_older}
 use Rattle.records.proofs.Rows.{split_zero, judged_returned, judged_done}
 use Rattle.records.proofs.Steps.{accepted_met, area_met, history_same, history_other, receipt_place}
 use Rattle.tables.proofs.WellLaid.{decoded_count}
-
--- ---- a record and its place
-
-at_older : {e : Event} {g h : History} → Older (e ∷ g) h → record_at (suc (length g)) h ≡ some e
-at_older {g} same = rw (eq-eqb (suc (length g)) (suc (length g)) refl)
-at_older {g} (newer {g = x} o) = let l = older_length o in rw (ne_eqb (suc (length g)) (suc (length x)) (omega arith)) (at_older o)
-
--- a record that is at place i, with those before it
-record Found (h : History) (e : Event) (i : ℕ) : Type 0 where
-  before : History
-  there : Older (e ∷ before) h
-  place : i ≡ suc (length before)
-
-found_later : {h : History} {e x : Event} {i : ℕ} → Found h e i → Found (x ∷ h) e i
-found_later F = record { before = F.before; there = newer F.there; place = F.place }
-
-found : (h : History) (e : Event) (i : ℕ) → record_at i h ≡ some e → Found h e i
-found [] e i a = absurd (none-ne-some e a)
-found (x ∷ h) e i a = go (test (eqb i (suc (length h)))) (found h e i)
-  where
-    go : Test (eqb i (suc (length h))) → (record_at i h ≡ some e → Found h e i) → Found (x ∷ h) e i
-    go (passes p) r =
-        let same_event : x ≡ e = some-injective x e (rw p at a) in
-        record { before = h; there = rw same_event same; place = eqb-true i (suc (length h)) p }
-    go (fails p) r = found_later (r (rw p at a))
 
 -- ---- the k-th send
 

@@ -16,7 +16,7 @@ use Rattle.rules.specs.Calls.{answer}
 use Rattle.rules.specs.Lists.{Entry, entry, accepted_call, accepted_calls, check, accepts, after, run, said, said_all}
 use Rattle.basics.proofs.Older.{Older, same, newer, older_trans}
 use Rattle.basics.proofs.Booleans.{Test, passes, fails, test}
-use Rattle.records.proofs.Steps.{Accepted, accepts_met, run_keeps, after_keeps, history_same, history_other, history_fresh, each_step, grown_older, stepped_older, carries_later}
+use Rattle.records.proofs.Steps.{Accepted, accepts_met, run_keeps, after_length, history_same, history_other, history_fresh, each_step, grown_older, stepped_older, carries_later}
 use Rattle.records.proofs.Rows.{judged_returned}
 
 -- the calls whose records a history has, the newest first
@@ -41,13 +41,10 @@ calls_grown h (receipt q k) c = go (forces h c)
 abbrev pub accepted : ℕ → ℕ → ℕ → State → List Entry → List Call
 accepted p n E s l = accepted_calls p l (said_all n E s l)
 
-said_returned : (n E : ℕ) (s : State) (e : Entry) → (said n E s e).returned ≡ check n E s e
+pub said_returned : (n E : ℕ) (s : State) (e : Entry) → (said n E s e).returned ≡ check n E s e
 unfolding said
 said_returned n E s (entry p call area) =
     judged_returned (check n E s (entry p call area)) (layout n E s) area (layout n E (stepped s p call)) (answer s p call)
-
-pub after_length : (n E : ℕ) (s : State) (e : Entry) → length (after n E s e) ≡ length s
-after_length n E s e = after_keeps (λ (t : State). length t ≡ length s) n E (λ t p call h A. length-set t p _ ∙ h) s e refl
 
 pub run_length : (n E : ℕ) (s : State) (l : List Entry) → length (run n E s l) ≡ length s
 run_length n E s l = run_keeps (λ (t : State). length t ≡ length s) n E (λ t p call h A. length-set t p _ ∙ h) s l refl

@@ -4,3 +4,4 @@ pub mod SentAgain
 pub mod BilledOnce
 pub mod Places
 pub mod Fields
+pub mod Audited

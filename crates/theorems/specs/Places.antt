@@ -2,21 +2,16 @@
 --
 -- "The receipt's area grows to 16 bytes: carried number, forced or not, place of the send, place of the receipt, both counted from 1":
 -- for every receipt that is accepted, on a table that a run makes or on any other.
-use Rattle.std.specs.Prelude.{◌≡◌, cond, List, [], ◌∷◌, ◌++◌, ℕ, suc, ◌+◌, ltb, eqb, length}
-use Rattle.std.proofs.Math.Option.{Option, none, some}
+use Rattle.std.specs.Prelude.{◌≡◌, cond, List, [], ◌∷◌, ◌++◌, ℕ, ◌+◌, ltb, eqb, length}
+use Rattle.std.proofs.Math.Option.{some}
 use Rattle.xdr.specs.Words.{word, bytes}
-use Rattle.rules.specs.Records.{Event, sent, received, forced, History, State, history, number, sends}
+use Rattle.rules.specs.Records.{sent, received, forced, History, State, history, record_at, number, sends}
 use Rattle.rules.specs.Table.{layout, decoded}
 use Rattle.rules.specs.Steps.{receipt}
 use Rattle.rules.specs.Lines.{upto}
 use Rattle.rules.specs.Calls.{outcome, step_on}
 
--- the record at place i, "counted from 1"
-abbrev pub record_at : ℕ → History → Option Event
-record_at i [] = none
-record_at i (e ∷ h) = cond (eqb i (suc (length h))) (some e) (record_at i h)
-
--- place i has the k-th send: its record is a send, to d, and of the records up to it k are sends
+-- place i, "counted from 1", has the k-th send: its record is a send, to d, and of the records up to it k are sends
 pub record SendAt (h : History) (k d i : ℕ) : Type 0 where
   pub there : record_at i h ≡ some (sent d)
   pub rank : sends (upto i h) ≡ k
