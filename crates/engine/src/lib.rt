@@ -2,6 +2,7 @@
 // documents 01 and 02, for all bytes, lengths and numbers; engine_c exports the same to C.
 #![tactic(auto)]
 
+pub use audit::audit as ckpt_audit;
 pub use failure::failed as ckpt_failed;
 pub use layout::fresh as ckpt_fresh;
 pub use lines::line as ckpt_line;

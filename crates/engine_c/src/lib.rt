@@ -2,10 +2,11 @@
 // the exports stand in a crate over the library.
 #![tactic(auto)]
 
-ghost use Rattle.std.specs.Prelude.{◌≡◌, []};
+ghost use Rattle.std.specs.Prelude.{◌≡◌, [], length};
 ghost use Rattle.rules.specs.Steps.{checkpoint, send, receipt};
 ghost use Rattle.rules.specs.Calls.{outcome, outcome_with, fresh_on, step_on, line_on, failed_on};
 ghost use Rattle.rules.specs.Resend.{resend_on};
+ghost use Rattle.rules.specs.Audit.{audit_on};
 
 #[unsafe(no_mangle)]
 pub extern "C" fn ckpt_fresh(table: &mut [u8], n: u32, e: u32) -> u32
@@ -54,4 +55,13 @@ pub extern "C" fn ckpt_resend(table: &[u8], positions: &[u8], area: &mut [u8]) -
     ensures { outcome_with result table.now area.new positions.now ≡ resend_on table.now positions.now area.old }
 {
     refusals::returned(engine::ckpt_resend(table, positions, area))
+}
+
+// What the scratch holds after an accepted call is left open: audit_on is told what it holds then, and leaves it so. Its length never changes.
+#[unsafe(no_mangle)]
+pub extern "C" fn ckpt_audit(table: &[u8], area: &mut [u8], scratch: &mut [u8]) -> u32
+    ensures outcome { outcome_with result table.now area.new scratch.new ≡ audit_on table.now area.old scratch.old scratch.new }
+    ensures scratch { length scratch.new ≡ length scratch.old }
+{
+    refusals::returned(engine::ckpt_audit(table, area, scratch))
 }

@@ -1,7 +1,7 @@
--- The numbers that document 01 gives to its checks, and document 02 to two more.
+-- The numbers that document 01 gives to its checks, and document 02 to three more.
 use Rattle.std.specs.Prelude.{ℕ, Result, Ok, Err}
 use Rattle.refusals.specs.declared.Refusal.{Refusal}
-use Rattle.refusals.specs.declared.Refusal.TheVariants.{BadDimensions, BadTableLength, NotWellLaid, BadAreaLength, BadProcess, BadOtherProcess, NotSent, AlreadyReceived, NoRecordsLeft, NumberAtLimit, BadMask, BadPositions, AreaTooShort}
+use Rattle.refusals.specs.declared.Refusal.TheVariants.{BadDimensions, BadTableLength, NotWellLaid, BadAreaLength, BadProcess, BadOtherProcess, NotSent, AlreadyReceived, NoRecordsLeft, NumberAtLimit, BadMask, BadPositions, AreaTooShort, BadScratch}
 
 abbrev pub number_of : Refusal → ℕ
 number_of BadDimensions = 1
@@ -17,6 +17,7 @@ number_of NumberAtLimit = 10
 number_of BadMask = 11
 number_of BadPositions = 12
 number_of AreaTooShort = 13
+number_of BadScratch = 14
 
 -- what a call returns: the number of its refusal, 0 where it was accepted
 abbrev pub returned : {A : Type 0} → Result A Refusal → ℕ

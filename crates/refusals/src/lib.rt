@@ -1,4 +1,4 @@
-// Why a call is refused (document 01, "Where a call is stopped"; document 02 for 12 and 13).
+// Why a call is refused (document 01, "Where a call is stopped"; document 02 for 12 to 14).
 #![tactic(auto)]
 
 ghost use Rattle.std.specs.Prelude.{◌≡◌, Result};
@@ -20,6 +20,7 @@ pub enum Refusal {
     BadMask = 11,
     BadPositions = 12,
     AreaTooShort = 13,
+    BadScratch = 14,
 }
 
 impl From<Refusal> for u32 {

@@ -1,0 +1,4 @@
+pub mod Notes
+pub mod Ways
+pub mod Calls
+pub mod Rounds
