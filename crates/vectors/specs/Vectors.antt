@@ -9,7 +9,9 @@ use Rattle.rules.specs.FailureLine.{round, rounds, failure_line}
 use Rattle.rules.specs.Calls.{failure_answer, fresh_on, step_on, line_on, failed_on}
 use Rattle.rules.specs.Text.{fresh, step, line, failed}
 use Rattle.rules.specs.Resend.{in_transit, resend_on}
-use Rattle.vectors.specs.Try.{Script, script, refused, accepted, resend, lent, Agree}
+use Rattle.rules.specs.Lists.{check}
+use Rattle.rules.specs.Audit.{advance, sweep, sweeps, replayed, audited, audit_on}
+use Rattle.vectors.specs.Try.{Script, script, refused, accepted, resend, audit, lent, Agree}
 
 abbrev table0 : List ℕ
 table0 = bytes (3 ∷ 6 ∷ 0 ∷ 0 ∷ 0 ∷ 0 ∷ 0 ∷ 0 ∷ 0 ∷ 0 ∷ 0 ∷ 0 ∷ 0 ∷ 0 ∷ 0 ∷ 0 ∷ 0 ∷ 0 ∷ 0 ∷ 0 ∷ 0 ∷ 0 ∷ 0 ∷ 0 ∷ 0 ∷ 0 ∷ 0 ∷ 0 ∷ 0 ∷ 0 ∷ 0 ∷ 0 ∷ 0 ∷ 0 ∷ 0 ∷ 0
@@ -1745,3 +1747,104 @@ saved = script (lent 160) (accepted (fresh 2 4) 0 [] table14 ∷ accepted (faile
 pub saved_agree : Agree saved
 unfolding fresh_on step_on line_on failed_on resend_on layout decoded well_laid word put_word put_words failure_answer failure_line rounds round ones ones_in in_transit
 saved_agree = refl
+
+abbrev table228 : List ℕ
+table228 = bytes (17 ∷ [])
+    ++ (0 ∷ 0 ∷ 0 ∷ [])
+
+abbrev table229 : List ℕ
+table229 = bytes (17 ∷ 2 ∷ 1 ∷ 0 ∷ 1 ∷ 3 ∷ 1 ∷ 1 ∷ 0 ∷ 0 ∷ 0 ∷ 0 ∷ 0 ∷ 2 ∷ 0 ∷ 0 ∷ 4 ∷ 0 ∷ 1 ∷ 0 ∷ 0 ∷ 0 ∷ 0 ∷ [])
+    ++ (0 ∷ 0 ∷ 0 ∷ [])
+
+abbrev table230 : List ℕ
+table230 = bytes (2 ∷ 2 ∷ 1 ∷ 0 ∷ 1 ∷ 3 ∷ 1 ∷ 1 ∷ 0 ∷ 0 ∷ 0 ∷ 0 ∷ 0 ∷ 2 ∷ 0 ∷ 0 ∷ 4 ∷ 0 ∷ 1 ∷ 0 ∷ 0 ∷ 0 ∷ 0 ∷ [])
+    ++ (0 ∷ 0 ∷ 0 ∷ [])
+
+abbrev table231 : List ℕ
+table231 = bytes (2 ∷ 2 ∷ 1 ∷ 0 ∷ 1 ∷ 3 ∷ 1 ∷ 1 ∷ 0 ∷ 0 ∷ 0 ∷ 0 ∷ 0 ∷ 2 ∷ 0 ∷ 0 ∷ 4 ∷ 0 ∷ 1 ∷ 0 ∷ 0 ∷ 0 ∷ 0 ∷ 0 ∷ [])
+
+abbrev table232 : List ℕ
+table232 = bytes (2 ∷ 2 ∷ 1 ∷ 0 ∷ 1 ∷ 3 ∷ 1 ∷ 1 ∷ 0 ∷ 0 ∷ 0 ∷ 0 ∷ 0 ∷ 1 ∷ 0 ∷ 0 ∷ 4 ∷ 0 ∷ 1 ∷ 0 ∷ 0 ∷ 0 ∷ 0 ∷ 0 ∷ [])
+
+abbrev table233 : List ℕ
+table233 = bytes (2 ∷ 2 ∷ 1 ∷ 0 ∷ 1 ∷ 3 ∷ 1 ∷ 1 ∷ 0 ∷ 0 ∷ 0 ∷ 0 ∷ 0 ∷ 1 ∷ 0 ∷ 0 ∷ 4 ∷ 0 ∷ 2 ∷ 0 ∷ 0 ∷ 0 ∷ 0 ∷ 0 ∷ [])
+
+-- The rows of the audit, in order.
+abbrev audit_rows : List Script
+audit_rows = script table228 (audit 4 96 2 [] ∷ audit 3 0 2 [] ∷ []) ∷ script table229 (audit 4 96 1 [] ∷ audit 3 0 1 [] ∷ [])
+    ∷ script table230 (audit 4 96 2 [] ∷ audit 3 0 2 [] ∷ []) ∷ script table231 (audit 4 96 3 [] ∷ audit 3 0 3 [] ∷ []) ∷ script table232 (audit 0 96 4 []
+    ∷ audit 3 0 4 [] ∷ audit 5 96 4 [] ∷ audit 8 97 4 [] ∷ audit 96 96 4 [] ∷ audit 4 0 14 [] ∷ audit 4 8 14 [] ∷ audit 4 16 14 [] ∷ audit 4 95 14 []
+    ∷ audit 4 97 14 [] ∷ audit 4 192 14 [] ∷ audit 4 96 0 (1 ∷ []) ∷ []) ∷ script table233 (audit 0 96 4 [] ∷ audit 3 0 4 [] ∷ audit 5 96 4 []
+    ∷ audit 8 97 4 [] ∷ audit 96 96 4 [] ∷ audit 4 0 14 [] ∷ audit 4 8 14 [] ∷ audit 4 16 14 [] ∷ audit 4 95 14 [] ∷ audit 4 97 14 [] ∷ audit 4 192 14 []
+    ∷ audit 4 96 0 (0 ∷ []) ∷ []) ∷ []
+
+pub audit_rows_agree : Agree audit_rows
+unfolding audit_on audited replayed sweeps sweep advance check layout decoded well_laid word put_word put_words
+audit_rows_agree = refl
+
+-- The audit on the tables that the runs left, which get 1.
+abbrev audit_made : List Script
+audit_made = script table107 (audit 4 36 0 (1 ∷ []) ∷ []) ∷ script table109 (audit 4 84 0 (1 ∷ []) ∷ []) ∷ script table112 (audit 4 64 0 (1 ∷ []) ∷ [])
+    ∷ script table119 (audit 4 128 0 (1 ∷ []) ∷ []) ∷ script table127 (audit 4 160 0 (1 ∷ []) ∷ []) ∷ script table140 (audit 4 224 0 (1 ∷ []) ∷ [])
+    ∷ script table147 (audit 4 140 0 (1 ∷ []) ∷ []) ∷ script table155 (audit 4 188 0 (1 ∷ []) ∷ []) ∷ script table168 (audit 4 236 0 (1 ∷ []) ∷ [])
+    ∷ script table184 (audit 4 332 0 (1 ∷ []) ∷ []) ∷ []
+
+pub audit_made_agree : Agree audit_made
+unfolding audit_on audited replayed sweeps sweep advance check layout decoded well_laid word put_word put_words
+audit_made_agree = refl
+
+abbrev table234 : List ℕ
+table234 = bytes (1 ∷ 4 ∷ 1 ∷ 2 ∷ 0 ∷ 1 ∷ 2 ∷ 0 ∷ 0 ∷ 0 ∷ 0 ∷ 0 ∷ 0 ∷ 0 ∷ 0 ∷ 0 ∷ 0 ∷ 0 ∷ 0 ∷ 0 ∷ 0 ∷ [])
+
+abbrev table235 : List ℕ
+table235 = bytes (2 ∷ 1 ∷ 0 ∷ 0 ∷ 0 ∷ 0 ∷ 0 ∷ 0 ∷ 0 ∷ 1 ∷ 0 ∷ 0 ∷ 4 ∷ 0 ∷ 1 ∷ 0 ∷ [])
+
+abbrev table236 : List ℕ
+table236 = bytes (2 ∷ 3 ∷ 3 ∷ 0 ∷ 3 ∷ 3 ∷ 1 ∷ 1 ∷ 0 ∷ 3 ∷ 1 ∷ 2 ∷ 0 ∷ 3 ∷ 1 ∷ 3 ∷ 0 ∷ 3 ∷ 0 ∷ 1 ∷ 4 ∷ 0 ∷ 2 ∷ 0 ∷ 4 ∷ 0 ∷ 2 ∷ 0 ∷ 3 ∷ 0 ∷ 1 ∷ 0 ∷ [])
+
+abbrev table237 : List ℕ
+table237 = bytes (2 ∷ 4 ∷ 4 ∷ 0 ∷ 4 ∷ 3 ∷ 1 ∷ 1 ∷ 0 ∷ 3 ∷ 1 ∷ 2 ∷ 0 ∷ 3 ∷ 1 ∷ 3 ∷ 0 ∷ 3 ∷ 1 ∷ 4 ∷ 0 ∷ 4 ∷ 0 ∷ 0 ∷ 4 ∷ 0 ∷ 1 ∷ 0 ∷ 4 ∷ 0 ∷ 3 ∷ 0 ∷ 4 ∷ 0 ∷ 1
+    ∷ 0 ∷ 4 ∷ 0 ∷ 4 ∷ 0 ∷ [])
+
+abbrev table238 : List ℕ
+table238 = bytes (2 ∷ 6 ∷ 6 ∷ 2 ∷ 3 ∷ 1 ∷ 2 ∷ 0 ∷ 0 ∷ 3 ∷ 1 ∷ 1 ∷ 2 ∷ 3 ∷ 1 ∷ 2 ∷ 2 ∷ 1 ∷ 2 ∷ 0 ∷ 0 ∷ 3 ∷ 1 ∷ 3 ∷ 2 ∷ 4 ∷ 1 ∷ 1 ∷ 2 ∷ 6 ∷ 2 ∷ 1 ∷ 1 ∷ 1 ∷ 0
+    ∷ 0 ∷ 1 ∷ 2 ∷ 0 ∷ 0 ∷ 4 ∷ 0 ∷ 1 ∷ 1 ∷ 4 ∷ 0 ∷ 2 ∷ 1 ∷ 4 ∷ 0 ∷ 3 ∷ 2 ∷ 3 ∷ 0 ∷ 1 ∷ 2 ∷ [])
+
+abbrev table239 : List ℕ
+table239 = bytes (3 ∷ 2 ∷ 2 ∷ 0 ∷ 2 ∷ 3 ∷ 2 ∷ 1 ∷ 0 ∷ 3 ∷ 2 ∷ 2 ∷ 0 ∷ 2 ∷ 0 ∷ 2 ∷ 3 ∷ 2 ∷ 1 ∷ 0 ∷ 3 ∷ 0 ∷ 2 ∷ 0 ∷ 2 ∷ 2 ∷ 1 ∷ 1 ∷ 2 ∷ 0 ∷ 0 ∷ 3 ∷ 0 ∷ 1 ∷ 2
+    ∷ [])
+
+abbrev table240 : List ℕ
+table240 = bytes (3 ∷ 3 ∷ 1 ∷ 0 ∷ 1 ∷ 3 ∷ 1 ∷ 1 ∷ 0 ∷ 0 ∷ 0 ∷ 0 ∷ 0 ∷ 0 ∷ 0 ∷ 0 ∷ 0 ∷ 3 ∷ 1 ∷ 0 ∷ 4 ∷ 2 ∷ 1 ∷ 0 ∷ 4 ∷ 2 ∷ 2 ∷ 0 ∷ 2 ∷ 1 ∷ 0 ∷ 0 ∷ 3 ∷ 1 ∷ 2
+    ∷ 3 ∷ 1 ∷ 1 ∷ 0 ∷ 3 ∷ 1 ∷ 2 ∷ 0 ∷ 1 ∷ 1 ∷ 0 ∷ 0 ∷ [])
+
+abbrev table241 : List ℕ
+table241 = bytes (3 ∷ 4 ∷ 4 ∷ 1 ∷ 3 ∷ 1 ∷ 1 ∷ 0 ∷ 0 ∷ 3 ∷ 2 ∷ 1 ∷ 1 ∷ 3 ∷ 1 ∷ 2 ∷ 1 ∷ 3 ∷ 2 ∷ 3 ∷ 1 ∷ 4 ∷ 2 ∷ 1 ∷ 3 ∷ 2 ∷ 1 ∷ 0 ∷ 1 ∷ 1 ∷ 0 ∷ 0 ∷ 1 ∷ 2 ∷ 0
+    ∷ 0 ∷ 4 ∷ 2 ∷ 1 ∷ 1 ∷ 4 ∷ 1 ∷ 1 ∷ 4 ∷ 1 ∷ 1 ∷ 0 ∷ 2 ∷ 1 ∷ 0 ∷ 0 ∷ 3 ∷ 1 ∷ 1 ∷ 1 ∷ 4 ∷ 0 ∷ 3 ∷ 1 ∷ [])
+
+abbrev table242 : List ℕ
+table242 = bytes (3 ∷ 6 ∷ 4 ∷ 2 ∷ 0 ∷ 4 ∷ 2 ∷ 1 ∷ 0 ∷ 4 ∷ 2 ∷ 3 ∷ 0 ∷ 1 ∷ 1 ∷ 0 ∷ 0 ∷ 1 ∷ 2 ∷ 0 ∷ 0 ∷ 0 ∷ 0 ∷ 0 ∷ 0 ∷ 0 ∷ 0 ∷ 0 ∷ 0 ∷ 6 ∷ 1 ∷ 5 ∷ 3 ∷ 2 ∷ 1
+    ∷ 0 ∷ 3 ∷ 2 ∷ 2 ∷ 0 ∷ 3 ∷ 2 ∷ 3 ∷ 0 ∷ 1 ∷ 1 ∷ 0 ∷ 0 ∷ 3 ∷ 2 ∷ 4 ∷ 1 ∷ 3 ∷ 2 ∷ 5 ∷ 1 ∷ 6 ∷ 0 ∷ 5 ∷ 3 ∷ 1 ∷ 1 ∷ 0 ∷ 3 ∷ 1 ∷ 2 ∷ 0 ∷ 3 ∷ 0 ∷ 3 ∷ 0 ∷ 4 ∷ 1
+    ∷ 2 ∷ 0 ∷ 3 ∷ 1 ∷ 4 ∷ 0 ∷ 3 ∷ 1 ∷ 5 ∷ 0 ∷ [])
+
+-- The audit on these with a place changed, so that they are well laid and get 0.
+abbrev audit_changed : List Script
+audit_changed = script table185 (audit 4 36 0 (0 ∷ []) ∷ []) ∷ script table234 (audit 4 84 0 (0 ∷ []) ∷ []) ∷ script table235 (audit 4 64 0 (0 ∷ []) ∷ [])
+    ∷ script table236 (audit 4 128 0 (0 ∷ []) ∷ []) ∷ script table237 (audit 4 160 0 (0 ∷ []) ∷ []) ∷ script table238 (audit 4 224 0 (0 ∷ []) ∷ [])
+    ∷ script table239 (audit 4 140 0 (0 ∷ []) ∷ []) ∷ script table240 (audit 4 188 0 (0 ∷ []) ∷ []) ∷ script table241 (audit 4 236 0 (0 ∷ []) ∷ [])
+    ∷ script table242 (audit 4 332 0 (0 ∷ []) ∷ []) ∷ []
+
+pub audit_changed_agree : Agree audit_changed
+unfolding audit_on audited replayed sweeps sweep advance check layout decoded well_laid word put_word put_words
+audit_changed_agree = refl
+
+-- The audit on well laid tables that no run makes.
+abbrev audit_unmade : List Script
+audit_unmade = script table191 (audit 4 96 0 (0 ∷ []) ∷ []) ∷ script table193 (audit 4 128 0 (0 ∷ []) ∷ []) ∷ script table195 (audit 4 160 0 (0 ∷ []) ∷ [])
+    ∷ script table197 (audit 4 192 0 (0 ∷ []) ∷ []) ∷ script table200 (audit 4 224 0 (0 ∷ []) ∷ []) ∷ script table209 (audit 4 188 0 (0 ∷ []) ∷ [])
+    ∷ script table211 (audit 4 236 0 (0 ∷ []) ∷ []) ∷ script table214 (audit 4 236 0 (0 ∷ []) ∷ []) ∷ script table218 (audit 4 284 0 (0 ∷ []) ∷ [])
+    ∷ script table219 (audit 4 332 0 (0 ∷ []) ∷ []) ∷ []
+
+pub audit_unmade_agree : Agree audit_unmade
+unfolding audit_on audited replayed sweeps sweep advance check layout decoded well_laid word put_word put_words
+audit_unmade_agree = refl

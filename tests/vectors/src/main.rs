@@ -3,6 +3,7 @@
 use cases::calls::numbers;
 use cases::chosen::{count_into_next_section, crossed, full, one_free_at, WORKED};
 use cases::cut::{self, has_orphan, in_transit, listed, tuples};
+use cases::made::altered;
 use cases::table::{
     changed, checkpoint, forced, old_table_length, receipt, record, section, send, words_of_records, Record,
     A, B, CARRIED, COUNT, KIND, NUMBER, RECEIPT, SENDS,
@@ -40,11 +41,16 @@ use Rattle.rules.specs.FailureLine.{round, rounds, failure_line}
 use Rattle.rules.specs.Calls.{failure_answer, fresh_on, step_on, line_on, failed_on}
 use Rattle.rules.specs.Text.{fresh, step, line, failed}
 use Rattle.rules.specs.Resend.{in_transit, resend_on}
-use Rattle.vectors.specs.Try.{Script, script, refused, accepted, resend, lent, Agree}
+use Rattle.rules.specs.Lists.{check}
+use Rattle.rules.specs.Audit.{advance, sweep, sweeps, replayed, audited, audit_on}
+use Rattle.vectors.specs.Try.{Script, script, refused, accepted, resend, audit, lent, Agree}
 ";
 
 const UNFOLDING: &str =
     "unfolding fresh_on step_on line_on failed_on resend_on layout decoded well_laid word put_word put_words failure_answer failure_line rounds round ones ones_in in_transit";
+
+const AUDIT_UNFOLDING: &str =
+    "unfolding audit_on audited replayed sweeps sweep advance check layout decoded well_laid word put_word put_words";
 
 /// A list as antt has it.
 fn list<T: ToString>(items: &[T]) -> String {
@@ -111,6 +117,8 @@ impl File {
 
     /// Writes scripts as one list, and the theorem that the rules agree with them.
     fn group(&mut self, name: &str, note: &str, scripts: Vec<Script>) {
+        let audits = scripts.iter().flat_map(|own| &own.steps).all(|step| step.call == Call::Audit);
+        let unfolding = if audits { AUDIT_UNFOLDING } else { UNFOLDING };
         let mut bodies = Vec::new();
         for own in scripts {
             let start = self.table(&own.start);
@@ -126,7 +134,7 @@ impl File {
         pieces.push(String::from("[]"));
         let body = wrapped(&format!("{name} ="), &pieces);
         self.text += &format!(
-            "\n-- {note}\nabbrev {name} : List Script\n{body}\n\npub {name}_agree : Agree {name}\n{UNFOLDING}\n{name}_agree = refl\n"
+            "\n-- {note}\nabbrev {name} : List Script\n{body}\n\npub {name}_agree : Agree {name}\n{unfolding}\n{name}_agree = refl\n"
         );
     }
 }
@@ -150,6 +158,9 @@ impl Step {
             let rest = argument(self.further.chunks_exact(4).remainder());
             return format!("resend {words} {rest} {area} {returned} {answer}");
         }
+        if self.call == Call::Audit {
+            return format!("audit {area} {} {returned} {answer}", self.further.len());
+        }
         let ask = ask(self.call);
         if returned == 0 {
             format!("accepted ({ask}) {area} {answer} {}", file.table(&self.after))
@@ -168,7 +179,7 @@ fn ask(call: Call) -> String {
         Call::Receipt { p, q, k } => format!("step {p} (receipt {q} {k})"),
         Call::Line { number } => format!("line {number}"),
         Call::Failed { mask } => format!("failed {mask}"),
-        Call::Resend => unreachable!("a step of its own"),
+        Call::Resend | Call::Audit => unreachable!("a step of its own"),
     }
 }
 
@@ -233,6 +244,17 @@ impl Script {
         for &more in [0].iter().chain(others) {
             self.call_with(Call::Resend, needed.saturating_add_signed(more), &from_words(cut));
         }
+    }
+
+    /// The audit with a scratch of this length.
+    fn audit(&mut self, area: usize, scratch: usize) -> u32 {
+        self.call_with(Call::Audit, area, &vec![0xFF; scratch])
+    }
+
+    /// The audit with an area and a scratch of the exact lengths. What it says of the table.
+    fn audited(&mut self) -> u32 {
+        assert_eq!(self.audit(4, self.table.len()), 0);
+        self.steps.last().unwrap().answer[0]
     }
 
     fn exact(&mut self, call: Call) -> u32 {
@@ -570,6 +592,63 @@ fn resends(rng: &mut Rng, table: &[u8]) -> Script {
     script
 }
 
+/// n = 2, E = 2: the rows of the audit in order, each with those after it met as well as with none of them, on a table that a run
+/// makes and on one that none does.
+fn rows_of_audit() -> Vec<Script> {
+    let words = words_of_records(2, &[vec![send(1, 1, 0)], vec![receipt(0, 1, 0)]]);
+    let length = table_length(2, 2);
+    let bad = changed(&words, &[(section(2, 1) + COUNT, 2)]);
+    let dimensions = from_words(&changed(&bad, &[(0, 17)]));
+    let badly_laid = from_words(&bad);
+    let both = |table: &[u8], number: u32| {
+        let mut script = Script::on(table);
+        for (area, scratch) in [(4, length), (3, 0)] {
+            assert_eq!(script.audit(area, scratch), number);
+        }
+        script
+    };
+    let unmade = words_of_records(2, &[vec![send(1, 1, 0)], vec![receipt(0, 2, 0)]]);
+    let later = [(&words, 1), (&unmade, 0)].map(|(words, verdict)| {
+        let mut script = Script::words(words);
+        for (area, scratch) in [(0, length), (3, 0), (5, length), (8, length + 1), (length, length)] {
+            assert_eq!(script.audit(area, scratch), 4);
+        }
+        for scratch in [0, 8, 16, length - 1, length + 1, 2 * length] {
+            assert_eq!(script.audit(4, scratch), 14);
+        }
+        assert_eq!(script.audited(), verdict);
+        script
+    });
+    let earlier = [
+        both(&dimensions[..7], 2),
+        both(&dimensions[..length - 1], 1),
+        both(&badly_laid[..length - 1], 2),
+        both(&badly_laid, 3),
+    ];
+    earlier.into_iter().chain(later).collect()
+}
+
+/// The audit of each table. Of the first so many it says 1, then 0.
+fn audits<'a>(tables: impl IntoIterator<Item = &'a Vec<u8>>, ones: usize) -> Vec<Script> {
+    let script = |(i, table): (usize, &Vec<u8>)| {
+        let mut script = Script::on(table);
+        assert_eq!(script.audited(), u32::from(i < ones), "{:?}", records(table));
+        script
+    };
+    tables.into_iter().enumerate().map(script).collect()
+}
+
+/// Each of the tables, a place of it changed so that it is well laid and no run makes it.
+fn spoiled(rng: &mut Rng, tables: &[Vec<u8>]) -> Vec<Vec<u8>> {
+    let mut spoil = |table: &Vec<u8>| loop {
+        let other = altered(rng, table);
+        if Script::on(&other).audited() == 0 {
+            return other;
+        }
+    };
+    tables.iter().map(&mut spoil).collect()
+}
+
 /// Document 02, slip 2: failed processes at their counts, on a fresh table and after a checkpoint.
 fn just_saved() -> Script {
     let mut script = Script::fresh(2, 4);
@@ -626,6 +705,15 @@ fn rules() -> String {
     file.group("resend_made", "Resend on the tables that the runs left.", of(&made));
     file.group("resend_unmade", "Resend on the well laid tables that no run makes.", of(&unmade));
     file.group("saved", "Processes that fail at their counts go back.", vec![just_saved()]);
+    file.group("audit_rows", "The rows of the audit, in order.", rows_of_audit());
+    let left = "The audit on the tables that the runs left, which get 1.";
+    file.group("audit_made", left, audits(&made, made.len()));
+    let spoilt = spoiled(&mut rng, &made);
+    let changed = "The audit on these with a place changed, so that they are well laid and get 0.";
+    file.group("audit_changed", changed, audits(&spoilt, 0));
+    // One of so few records may be as a run leaves it.
+    let of_no_run = unmade.iter().filter(|table| records(table).iter().flatten().count() > 2);
+    file.group("audit_unmade", "The audit on well laid tables that no run makes.", audits(of_no_run, 0));
     assert_eq!(file.met, numbers(), "the numbers that are met");
     file.text
 }
