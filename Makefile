@@ -17,7 +17,7 @@ into = $(DESTDIR)$(abspath $(PREFIX))
 # what is proved, and by what: the archive and the program are made anew when any of it is newer
 sources = $(shell find crates.txt crates \( -name must-fail -o -name out \) -prune -o -type f -print) $(shell command -v rt)
 
-.PHONY: run program run-c run-host lib install uninstall fuzz sizes bench test clean
+.PHONY: run program run-c run-host run-storage lib install uninstall fuzz sizes bench test clean
 
 # runs the text program on a file of calls and prints calls and answers side by side; CALLS=FILE names another file
 run: program
@@ -41,6 +41,17 @@ run-c: target/worked
 run-host: target/host
 	@./target/host
 
+# runs the host that keeps its table in a file: begun, gone on with, with its newer slot torn, and with a table that is refused
+run-storage: target/storage
+	@rm -f target/storage.bin
+	@./target/storage target/storage.bin
+	@./target/storage target/storage.bin
+	@echo 'part of the last save is lost:'
+	@printf torn | dd of=target/storage.bin bs=1 seek=4200 conv=notrunc status=none
+	@./target/storage target/storage.bin
+	@./target/storage target/storage.bin --invent
+	@! ./target/storage target/storage.bin
+
 # proves the engine and writes its archive
 lib: $(LIB)
 
@@ -49,7 +60,7 @@ $(LIB): $(sources)
 	@(cd crates/engine_c && rt lib --cpu x86-64) > target/lib.log 2>&1 || { cat target/lib.log; exit 1; }
 	@cp crates/engine_c/out/libengine_c.a $@
 
-target/worked target/host: target/%: examples/%.c include/ckpt.h $(LIB)
+target/worked target/host target/storage: target/%: examples/%.c include/ckpt.h $(LIB)
 	@$(CC) $(CFLAGS) -Iinclude -o $@ $< $(LIB)
 
 # installs header, archive and pkg-config file below PREFIX
