@@ -1,10 +1,11 @@
 /* bench [--short]: times each call of the archive beside the same call in plain C (peer.c) and prints, as Markdown, how long both
    take, how long the product takes compared with one pass over the table's bytes, and how its time grows with the table. The two
-   take turns on fresh copies of the same tables, and each turn must leave the same numbers, tables, positions and areas. --short
-   makes few rounds.
+   take turns on fresh copies of the same tables, and each turn must leave the same numbers, tables, positions and areas; what is left
+   in a scratch is open. --short makes few rounds.
 
-   Status 1 where the two differ, where a call on the largest table takes more than BOUND times the peer's time, or where a call
-   other than a failure line takes more than BOUND times as long for a record place at E = 1,024 as at E = 256. */
+   Status 1 where the two differ or an audit is not what is meant, where a call on the largest table takes more than BOUND times the
+   peer's time, or where a call other than a failure line takes more than BOUND times as long for a record place at E = 1,024 as at
+   E = 256. */
 #include <stdbool.h>
 #include <stdio.h>
 #include <stdlib.h>
@@ -21,6 +22,7 @@
     X(line, TABLE, AREA_OF(CKPT_LINE_LENGTH(t->n)), MESSAGE.send)                           \
     X(failed, TABLE, AREA_OF(CKPT_FAILED_LENGTH(t->n)), MASK)                               \
     X(resend, TABLE, POSITIONS, AREA_OF(t->list))                                           \
+    X(audit, TABLE, AREA_OF(CKPT_AUDIT_LENGTH), SCRATCH)                                    \
     X(fresh, TABLE, t->n, t->e)
 
 /* The same call in plain C has the same parameters. */
@@ -33,11 +35,13 @@ enum call { EACH_CALL(NUMBERED) CALLS };
 #define BOUND 2.0
 /* Process 0 fails. */
 #define MASK 1u
-#define LONGEST CKPT_TABLE_LENGTH(CKPT_MAX_PROCESSES, CKPT_MAX_RECORDS)
+/* The tables of a row, and their lists: at most as many record places as the largest table has, in tables of a 16th and more of it. */
+#define PARTS 16
+#define LONGEST (PARTS * CKPT_TABLE_LENGTH(CKPT_MAX_PROCESSES, CKPT_MAX_RECORDS / PARTS))
 #define CUT CKPT_LINE_LENGTH(CKPT_MAX_PROCESSES)
 /* The longest area, without and with that of the messages to send again. */
 #define AREA CKPT_FAILED_LENGTH(CKPT_MAX_PROCESSES)
-#define LONGEST_AREA CKPT_RESEND_MOST(CKPT_MAX_PROCESSES, CKPT_MAX_RECORDS)
+#define LONGEST_AREA (PARTS * CKPT_RESEND_MOST(CKPT_MAX_PROCESSES, CKPT_MAX_RECORDS / PARTS))
 #define MOST_RUNS 7
 #define MOST_ROUNDS 21
 #define MOST_TURNS 320
@@ -45,7 +49,7 @@ enum call { EACH_CALL(NUMBERED) CALLS };
 
 /* A reading of the clock takes as long as a call on a small table. So many small tables lie side by side and are called one after the
    other between two readings. Each is drawn for itself: a processor learns the branches that one table of nine records takes by
-   heart, and a host's table changes from step to step. Of a larger one there is one. */
+   heart, and a host's table changes from step to step. Of a larger one there is one, but in the series of the growth. */
 #define SMALL_TABLES 64
 #define SMALL 512
 
@@ -53,6 +57,8 @@ enum call { EACH_CALL(NUMBERED) CALLS };
 #define PLACES_OF_A_ROUND (20 * 16 * 1024)
 #define FEW_TURNS 5
 #define FALL_ROUNDS 341
+/* A message that goes down a ring of 16 processes takes 15 sweeps a lap. */
+#define MOST_SWEEPS 7600
 
 /* All tables begin a page, so that none is slower by where it lies. */
 #define PAGE_ALIGNED __attribute__((aligned(4096)))
@@ -74,11 +80,12 @@ struct tables {
     int count, turns;
 } PAGE_ALIGNED;
 
-/* What one side gets for a turn: copies of the tables and cuts, an area for each, `area` bytes from one to the next, and what the
-   calls return. */
+/* What one side gets for a turn: copies of the tables and cuts, an area for each, `area` bytes from one to the next, a scratch as long
+   as each table, and what the calls return. */
 struct lent {
     uint8_t tables[LONGEST];
     uint8_t areas[LONGEST_AREA];
+    uint8_t scratches[LONGEST];
     uint8_t cuts[SMALL_TABLES][CUT];
     uint32_t returned[SMALL_TABLES];
     size_t area;
@@ -94,16 +101,20 @@ struct row {
     double product[MOST_RUNS], peer[MOST_RUNS], ratio[MOST_RUNS], passes[MOST_RUNS];
 };
 
-enum { SIZES = 3, FALL_ROW = SIZES * CALLS, TRANSIT_ROW, EXACT_ROW, ROWS };
+enum { SIZES = 3, FALL_ROW = SIZES * CALLS, TRANSIT_ROW, EXACT_ROW, FULL_ROW, UNMADE_ROW, RING_ROW, ROWS };
 static const uint32_t sizes[SIZES][2] = {{3, 6}, {8, 256}, {16, 1024}};
-static struct tables drawn_tables[SIZES], fall, transit, exact;
+static struct tables drawn_tables[SIZES], fall, transit, exact, unmade, ring;
 static struct row rows[ROWS];
 
-/* The series of the growth: n is 16, and each E is twice the one before. */
+/* The series of the growth: n is 16, and each E is twice the one before. So many tables lie side by side that all have the record
+   places of the largest: one alone would be learned by heart the better, the smaller it is. */
 enum { SERIES = 5, BOUND_FROM = 2 };
 static const uint32_t series[SERIES] = {64, 128, 256, 512, 1024};
 static struct tables grown[SERIES];
 static double growth[CALLS][SERIES][MOST_RUNS];
+
+/* How many sweeps over the processes the ring takes. */
+static uint32_t ring_sweeps;
 
 /* Where processes 0 and 1 are before and after the fall, and its rounds. */
 static struct {
@@ -128,12 +139,12 @@ static void end_badly(const char *why) {
     exit(1);
 }
 
-static void begin_tables(struct tables *tables, uint32_t n, uint32_t e) {
+static void begin_tables(struct tables *tables, uint32_t n, uint32_t e, int count) {
     tables->n = n;
     tables->e = e;
     tables->length = CKPT_TABLE_LENGTH(n, e);
     tables->list = CKPT_RESEND_MOST(n, e);
-    tables->count = tables->length <= SMALL ? SMALL_TABLES : 1;
+    tables->count = count;
     tables->turns = PLACES_OF_A_ROUND / (int)(n * e) / tables->count;
     if (tables->turns > MOST_TURNS) end_badly("a round has too many turns");
 }
@@ -226,15 +237,15 @@ static void draw_cut(struct tables *tables, int i) {
     }
 }
 
-static void draw_tables(struct tables *tables, uint32_t n, uint32_t e, uint32_t used_records, uint32_t sends) {
-    begin_tables(tables, n, e);
+static void draw_tables(struct tables *tables, uint32_t n, uint32_t e, int count, uint32_t used_records, uint32_t sends) {
+    begin_tables(tables, n, e, count);
     draws = 88172645463325252u;
     for (int i = 0; i < tables->count; i++) draw_table(tables, i, used_records, sends);
     for (int i = 0; i < tables->count; i++) draw_cut(tables, i);
 }
 
-static void half_full(struct tables *tables, uint32_t n, uint32_t e) {
-    draw_tables(tables, n, e, n * e / 2, 45);
+static void half_full(struct tables *tables, uint32_t n, uint32_t e, int count) {
+    draw_tables(tables, n, e, count, n * e / 2, 45);
 }
 
 /* ---- messages in transit ---- */
@@ -244,7 +255,7 @@ static uint32_t in_transit;
 /* A fuller table, from more sends, and a cut with thousands of messages in transit; once more with the exact area for these. */
 static void crowded(void) {
     static uint8_t area[LONGEST_AREA];
-    draw_tables(&transit, CKPT_MAX_PROCESSES, CKPT_MAX_RECORDS, CKPT_MAX_PROCESSES * CKPT_MAX_RECORDS / 8 * 7, 70);
+    draw_tables(&transit, CKPT_MAX_PROCESSES, CKPT_MAX_RECORDS, 1, CKPT_MAX_PROCESSES * CKPT_MAX_RECORDS / 8 * 7, 70);
     transit.turns = FEW_TURNS;
     if (peer_resend(transit.bytes, transit.length, transit.cuts[0], CUT, area, sizeof area) != CKPT_OK) end_badly("no list");
     in_transit = ckpt_word(area, 0);
@@ -282,7 +293,7 @@ static void add_record(struct tables *table, uint32_t p, uint32_t kind, uint32_t
    341, without its send 341, which process 0 received in group 340, and so on. Each round takes both a group back, until they are
    at their first checkpoints, at position 1. */
 static void falling(struct tables *table) {
-    begin_tables(table, CKPT_MAX_PROCESSES, CKPT_MAX_RECORDS);
+    begin_tables(table, CKPT_MAX_PROCESSES, CKPT_MAX_RECORDS, 1);
     table->turns = FEW_TURNS;
     if (peer_fresh(table->bytes, table->length, table->n, table->e) != CKPT_OK) end_badly("no fresh table");
     for (uint32_t p = 0; p < 2; p++) {
@@ -348,6 +359,72 @@ static void check_fall(const struct tables *table) {
     if (ckpt_word(area, table->n) != 3 || ckpt_word(area, table->n + 1) != 2) end_badly("not just processes 0 and 1 fall");
 }
 
+/* ---- tables to audit ---- */
+
+/* The crowded table with the last receipt of the last process that carried a number carrying one less, which is well laid and not
+   made. Only who compares a receipt with its send can tell, and it is among the last records. */
+static void spoilt(void) {
+    unmade = transit;
+    uint32_t p = unmade.n - 1, r = ckpt_word(unmade.bytes, heading(&unmade, p, HEADING_COUNT));
+    while (r > 0 && (record(&unmade, p, r - 1, RECORD_KIND) != KIND_RECEIPT || record(&unmade, p, r - 1, RECORD_CARRIED) == 0)) r--;
+    if (r < unmade.e / 2) end_badly("no late receipt of the last process carried a number");
+    put_word(unmade.bytes, record_at(unmade.e, p, r - 1) + RECORD_CARRIED, record(&unmade, p, r - 1, RECORD_CARRIED) - 1);
+}
+
+/* A message that goes from each process to the one below, and from 0 to the last, until there is no room. So a sweep over the
+   processes, 0 first, in which each goes on until its next record is a receipt of a send not yet reached, gets no further than one
+   message, but for that from 0. */
+static void go_round(struct tables *table) {
+    begin_tables(table, CKPT_MAX_PROCESSES, CKPT_MAX_RECORDS, 1);
+    table->turns = FEW_TURNS;
+    if (peer_fresh(table->bytes, table->length, table->n, table->e) != CKPT_OK) end_badly("no fresh table");
+    uint32_t last = table->n - 1, sends = table->e / 2;
+    for (uint32_t k = 1; k <= sends; k++) {
+        for (uint32_t left = table->n; left > 0; left--) {
+            uint32_t p = left - 1, from = p == last ? 0 : p + 1;
+            if (p < last || k > 1) add_record(table, p, KIND_RECEIPT, from, p == last ? k - 1 : k, 0);
+            add_record(table, p, KIND_SEND, p == 0 ? last : p - 1, k, 0);
+        }
+    }
+    for (uint32_t p = 0; p < table->n; p++) put_word(table->bytes, heading(table, p, HEADING_SENDS), sends);
+}
+
+/* The sweeps over the ring's processes that add a record. */
+static uint32_t count_sweeps(const struct tables *table) {
+    uint32_t at[CKPT_MAX_PROCESSES] = {0}, sent[CKPT_MAX_PROCESSES] = {0}, sweeps = 0;
+    for (bool again = true; again; sweeps += again) {
+        again = false;
+        for (uint32_t p = 0; p < table->n; p++) {
+            uint32_t count = ckpt_word(table->bytes, heading(table, p, HEADING_COUNT));
+            for (; at[p] < count; at[p]++, again = true) {
+                uint32_t kind = record(table, p, at[p], RECORD_KIND);
+                if (kind == KIND_RECEIPT && record(table, p, at[p], RECORD_B) > sent[record(table, p, at[p], RECORD_A)]) break;
+                sent[p] += kind == KIND_SEND;
+            }
+        }
+    }
+    return sweeps;
+}
+
+/* Sees that both sides say of the table what is meant. */
+static void check_audit(const struct tables *table, uint32_t verdict) {
+    static uint8_t scratch[LONGEST];
+    uint8_t area[CKPT_AUDIT_LENGTH];
+    if (ckpt_audit(table->bytes, table->length, area, sizeof area, scratch, table->length) != CKPT_OK) end_badly("an audit is refused");
+    if (ckpt_word(area, 0) != verdict) end_badly("the product's audit is not the one that is meant");
+    if (peer_audit(table->bytes, table->length, area, sizeof area, scratch, table->length) != CKPT_OK) end_badly("an audit is refused");
+    if (ckpt_word(area, 0) != verdict) end_badly("the peer's audit is not the one that is meant");
+}
+
+static void check_audits(void) {
+    for (int size = 0; size < SIZES; size++) check_audit(&drawn_tables[size], 1);
+    check_audit(&transit, 1);
+    check_audit(&unmade, 0);
+    check_audit(&ring, 1);
+    ring_sweeps = count_sweeps(&ring);
+    if (ring_sweeps < MOST_SWEEPS) end_badly("the ring does not take the most sweeps");
+}
+
 /* ---- measuring ---- */
 
 static uint64_t now(void) {
@@ -361,6 +438,7 @@ static void lend(struct lent *lent, const struct tables *tables, enum call call)
     memcpy(lent->tables, tables->bytes, (size_t)tables->count * tables->length);
     memcpy(lent->cuts, tables->cuts, sizeof lent->cuts);
     memset(lent->areas, 0xA5, (size_t)tables->count * lent->area);
+    if (call == CALL_audit) memset(lent->scratches, 0xA5, (size_t)tables->count * tables->length);
 }
 
 /* A side's call on each table, one after the other. */
@@ -369,6 +447,7 @@ typedef void on_each(const struct tables *t, struct lent *lent);
 #define TABLE lent->tables + (size_t)i * t->length, t->length
 #define POSITIONS lent->cuts[i], CKPT_LINE_LENGTH(t->n)
 #define AREA_OF(LENGTH) lent->areas + (size_t)i * lent->area, LENGTH
+#define SCRATCH lent->scratches + (size_t)i * t->length, t->length
 #define MESSAGE t->messages[i]
 #define ON_EACH(SIDE, NAME, ...)                                                            \
     static void SIDE##_##NAME##_on_each(const struct tables *t, struct lent *lent) {        \
@@ -566,10 +645,17 @@ static void print_all(void) {
     printf("\n## %u messages to send again\n\n", in_transit);
     puts("A table that is seven eighths full, from more sends. The first row's area is long enough for any list, the second's just for\n"
          "this one.\n");
-    print_rows(TRANSIT_ROW, ROWS);
+    print_rows(TRANSIT_ROW, FULL_ROW);
+    puts("\n## Tables to audit\n");
+    printf("The first row's table is the one above. In the second's the last receipt of the last process that carried a number carries one\n"
+           "less, so that no run makes it. In the third's a message goes down the ring of processes: it is made, and takes %u sweeps over\n"
+           "the processes, 0 first, where each goes on until its next record is a receipt of a send not yet reached. The half full tables\n"
+           "are made too.\n\n",
+           ring_sweeps);
+    print_rows(FULL_ROW, ROWS);
     puts("\n## Growth\n");
-    puts("Nanoseconds that the product takes for each of the n × E record places, n = 16, half full. They stay the same where a");
-    puts("call's time is linear.\n");
+    puts("Nanoseconds that the product takes for each of the n × E record places, n = 16, half full, in as many tables side by side as");
+    puts("have 16,384 places. They stay the same where a call's time is linear.\n");
     print_growth();
     fflush(stdout); /* what is over a bound is said after it */
 }
@@ -599,18 +685,24 @@ static int over_bounds(void) {
 
 static void make_tables(void) {
     for (int size = 0; size < SIZES; size++) {
-        half_full(&drawn_tables[size], sizes[size][0], sizes[size][1]);
+        uint32_t n = sizes[size][0], e = sizes[size][1];
+        half_full(&drawn_tables[size], n, e, CKPT_TABLE_LENGTH(n, e) <= SMALL ? SMALL_TABLES : 1);
         for (int call = 0; call < CALLS; call++) {
             rows[size * CALLS + call].tables = &drawn_tables[size];
             rows[size * CALLS + call].call = (enum call)call;
         }
     }
-    for (int i = 0; i < SERIES; i++) half_full(&grown[i], CKPT_MAX_PROCESSES, series[i]);
+    for (int i = 0; i < SERIES; i++) half_full(&grown[i], CKPT_MAX_PROCESSES, series[i], (int)(CKPT_MAX_RECORDS / series[i]));
     falling(&fall);
     crowded();
+    spoilt();
+    go_round(&ring);
     rows[FALL_ROW] = (struct row){.tables = &fall, .call = CALL_failed, .of = " in the fall"};
     rows[TRANSIT_ROW] = (struct row){.tables = &transit, .call = CALL_resend, .of = " of thousands"};
     rows[EXACT_ROW] = (struct row){.tables = &exact, .call = CALL_resend, .of = " into an exact area"};
+    rows[FULL_ROW] = (struct row){.tables = &transit, .call = CALL_audit, .of = " of a fuller table"};
+    rows[UNMADE_ROW] = (struct row){.tables = &unmade, .call = CALL_audit, .of = " of what no run makes"};
+    rows[RING_ROW] = (struct row){.tables = &ring, .call = CALL_audit, .of = " of the ring"};
 }
 
 int main(int argc, char **argv) {
@@ -627,6 +719,7 @@ int main(int argc, char **argv) {
         for (int row = 0; row < ROWS; row++) measure(&rows[row], run);
         measure_growth(run);
     }
+    check_audits();
     print_all();
     return over_bounds();
 }

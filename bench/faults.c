@@ -1,18 +1,21 @@
-/* Engines that the bench must refuse (tests/bench.sh --faults): ckpt_send, ckpt_failed and ckpt_resend of the archive, wrapped by the
-   linker. -DCHECKS=N makes the peer check the table N times before ckpt_send, and -DAFTER=.. is what that does last. -DREPEATS=N makes
-   the peer look N times for the line before ckpt_failed does, and -DLISTS=N list the messages N times before ckpt_resend does;
-   -DLISTED=.. is what that does last. An engine that waits for the peer is slower than the peer on every machine. Without these they
-   do what the archive's do. */
+/* Engines that the bench must refuse (tests/bench.sh --faults): ckpt_send, ckpt_failed, ckpt_resend and ckpt_audit of the archive,
+   wrapped by the linker. -DCHECKS=N makes the peer check the table N times before ckpt_send, and -DAFTER=.. is what that does last.
+   -DREPEATS=N makes the peer look N times for the line before ckpt_failed does, -DLISTS=N list the messages N times before ckpt_resend
+   does, and -DAUDITS=N audit the table N times before ckpt_audit does; -DLISTED=.. and -DAUDITED=.. are what these two do last. An
+   engine that waits for the peer is slower than the peer on every machine. Without these they do what the archive's do. */
 #include "../include/ckpt.h"
 
 uint32_t __real_ckpt_send(uint8_t *table, size_t table_len, uint8_t *area, size_t area_len, uint32_t p, uint32_t q);
 uint32_t __real_ckpt_failed(const uint8_t *table, size_t table_len, uint8_t *area, size_t area_len, uint32_t mask);
 uint32_t __real_ckpt_resend(const uint8_t *table, size_t table_len, const uint8_t *positions, size_t positions_len, uint8_t *area,
                             size_t area_len);
+uint32_t __real_ckpt_audit(const uint8_t *table, size_t table_len, uint8_t *area, size_t area_len, uint8_t *scratch,
+                           size_t scratch_len);
 
 extern __typeof__(ckpt_line) peer_line;
 extern __typeof__(ckpt_failed) peer_failed;
 extern __typeof__(ckpt_resend) peer_resend;
+extern __typeof__(ckpt_audit) peer_audit;
 
 #ifndef CHECKS
 #define CHECKS 0
@@ -28,6 +31,12 @@ extern __typeof__(ckpt_resend) peer_resend;
 #endif
 #ifndef LISTED
 #define LISTED (void)0
+#endif
+#ifndef AUDITS
+#define AUDITS 0
+#endif
+#ifndef AUDITED
+#define AUDITED (void)0
 #endif
 
 uint32_t __wrap_ckpt_send(uint8_t *table, size_t table_len, uint8_t *area, size_t area_len, uint32_t p, uint32_t q) {
@@ -48,5 +57,13 @@ uint32_t __wrap_ckpt_resend(const uint8_t *table, size_t table_len, const uint8_
     for (int left = LISTS; left > 0; left--) peer_resend(table, table_len, positions, positions_len, area, area_len);
     uint32_t returned = __real_ckpt_resend(table, table_len, positions, positions_len, area, area_len);
     LISTED;
+    return returned;
+}
+
+uint32_t __wrap_ckpt_audit(const uint8_t *table, size_t table_len, uint8_t *area, size_t area_len, uint8_t *scratch,
+                           size_t scratch_len) {
+    for (int left = AUDITS; left > 0; left--) peer_audit(table, table_len, area, area_len, scratch, scratch_len);
+    uint32_t returned = __real_ckpt_audit(table, table_len, area, area_len, scratch, scratch_len);
+    AUDITED;
     return returned;
 }

@@ -1,22 +1,24 @@
-/* The checkpoint table of a block controller, its restart lines (document 01) and the messages to send again after a restart
-   (document 02), over lent bytes.
+/* The checkpoint table of a block controller, its restart lines (document 01), the messages to send again after a restart and the
+   audit of a table that comes from storage (document 02), over lent bytes.
 
    The caller lends a table and an area for the answer. A call that is accepted returns CKPT_OK. Any other number is that of the
-   first check that stopped it, and table and area are then as they were, whatever bytes, lengths and numbers came in. Each call
+   first check that stopped it, and whatever was lent is then as it was, whatever bytes, lengths and numbers came in. Each call
    below lists the numbers that it can return, in the order in which it checks.
 
    Words in tables and areas are XDR unsigned integers: four bytes, most significant first. ckpt_word reads one.
 
    What the caller sees to:
    - A pointer and its length stand for bytes that may be read and, where the pointer is not const, written. Any alignment will do.
-   - Table, area and positions do not overlap. Nobody else writes them during a call, nor reads what the call may write.
+   - Table, area, positions and scratch do not overlap. Nobody else writes them during a call, nor reads what the call may write.
    - A null pointer with length 0 is an area of no bytes: no call looks at it, and its length stops the call, if nothing before it
      did. A null pointer with any other length is an error that no call can see.
-   - ckpt_failed needs 17 KiB of stack, ckpt_resend less than 4 KiB, every other call less than 512 bytes.
+   - ckpt_failed needs 17 KiB of stack, ckpt_resend less than 4 KiB, ckpt_audit less than 1 KiB, every other call less than 512
+     bytes.
 
-   Calls keep nothing of their own. They may run at the same time on different tables, and ckpt_line, ckpt_failed and ckpt_resend on
-   one table too, each with its own area. A call that is cut short, as by a power cut, may leave a part of what it writes: who keeps
-   tables in storage keeps the last whole one until the next is whole. */
+   Calls keep nothing of their own. They may run at the same time on different tables, and ckpt_line, ckpt_failed, ckpt_resend and
+   ckpt_audit on one table too, each with its own area, and ckpt_audit with its own scratch, since it writes both. A call that is cut
+   short, as by a power cut, may leave a part of what it writes: who keeps tables in storage keeps the last whole one until the next
+   is whole, and audits what it loads: a table that gets 1 there is one that these calls make. examples/storage.c shows how. */
 #ifndef CKPT_H
 #define CKPT_H
 
@@ -27,10 +29,11 @@
 extern "C" {
 #endif
 
-/* The version, as one number to compare (0.3.0 is 300) and as text. A record has four words since 0.2.0; a table that an earlier
-   version stored is refused by its length. A receipt answers four words since 0.3.0; a shorter area is refused. */
+/* The version, as one number to compare (0.4.0 is 400) and as text. A record has four words since 0.2.0; a table that an earlier
+   version stored is refused by its length. A receipt answers four words since 0.3.0; a shorter area is refused. ckpt_audit is there
+   since 0.4.0. */
 #define CKPT_VERSION_MAJOR 0
-#define CKPT_VERSION_MINOR 3
+#define CKPT_VERSION_MINOR 4
 #define CKPT_VERSION_PATCH 0
 #define CKPT_VERSION (CKPT_VERSION_MAJOR * 10000 + CKPT_VERSION_MINOR * 100 + CKPT_VERSION_PATCH)
 #define CKPT_VERSION_STRING CKPT_TEXT(CKPT_VERSION_MAJOR) "." CKPT_TEXT(CKPT_VERSION_MINOR) "." CKPT_TEXT(CKPT_VERSION_PATCH)
@@ -52,6 +55,7 @@ extern "C" {
 #define CKPT_BAD_MASK 11u         /* the mask has a bit at n or above */
 #define CKPT_BAD_POSITIONS 12u    /* the positions are not n words, or one is above its process's count of records */
 #define CKPT_AREA_TOO_SHORT 13u   /* the area is too short for the messages to send again */
+#define CKPT_BAD_SCRATCH 14u      /* the scratch is not as long as the table */
 
 /* The ranges: n processes, 1 to 16, named 0 to n - 1, with e records each, 1 to 1024. */
 #define CKPT_MAX_PROCESSES 16u
@@ -70,6 +74,8 @@ extern "C" {
 #define CKPT_FAILED_LENGTH(n) (4ul * (n) + 8ul)
 #define CKPT_RESEND_LENGTH(count) (4ul + 12ul * (count))
 #define CKPT_RESEND_MOST(n, e) (4ul + 12ul * (n) * (e))
+#define CKPT_AUDIT_LENGTH 4ul
+#define CKPT_SCRATCH_LENGTH(n, e) CKPT_TABLE_LENGTH(n, e) /* the scratch that ckpt_audit is lent besides */
 
 /* Word i of an area, counted from 0. */
 static inline uint32_t ckpt_word(const uint8_t *area, size_t i) {
@@ -123,6 +129,14 @@ uint32_t ckpt_failed(const uint8_t *table, size_t table_len, uint8_t *area, size
    Returns CKPT_BAD_TABLE_LENGTH, CKPT_BAD_DIMENSIONS, CKPT_NOT_WELL_LAID, CKPT_BAD_POSITIONS, CKPT_AREA_TOO_SHORT, CKPT_OK. */
 uint32_t ckpt_resend(const uint8_t *table, size_t table_len, const uint8_t *positions, size_t positions_len, uint8_t *area,
                      size_t area_len);
+
+/* Audits a table that comes from storage. The area gets 1 if some run of accepted checkpoints, sends and receipts from a fresh table
+   leaves precisely these bytes, else 0: a table may be well laid and yet come from no run, as one in which two receipts each wait
+   for the other. One that gets 1 has all that holds of tables made by these calls. A table that is not well laid is refused, and
+   gets no 0. The scratch is room for the call, as long as the table, and may hold anything before. What it holds after an accepted
+   call is left open; a refused call leaves it as it was. The table stays as it is.
+   Returns CKPT_BAD_TABLE_LENGTH, CKPT_BAD_DIMENSIONS, CKPT_NOT_WELL_LAID, CKPT_BAD_AREA_LENGTH, CKPT_BAD_SCRATCH, CKPT_OK. */
+uint32_t ckpt_audit(const uint8_t *table, size_t table_len, uint8_t *area, size_t area_len, uint8_t *scratch, size_t scratch_len);
 
 #ifdef __cplusplus
 }

@@ -13,8 +13,8 @@ seed=1
 origin="fuzz, case [0-9]+, CKPT_SEED=$seed"
 missed=0
 
-# what overrun.c wraps: a call that only reads the table, two that write it, and one that is lent more than table and area
-calls=(ckpt_line ckpt_send ckpt_receipt ckpt_resend)
+# what overrun.c wraps: a call that only reads the table, two that write it, and two that are lent more than table and area
+calls=(ckpt_line ckpt_send ckpt_receipt ckpt_resend ckpt_audit)
 
 # wrapped WORDS..: makes the fuzzer with overrun.c, compiled with these words, around these calls of the archive
 wrapped() {
@@ -73,8 +73,9 @@ engine "no fault"
 wrapped && passes
 told
 
-for block in table area "table of resend" "area of resend" positions; do
-    lent=${block% of resend}
+for block in table area "table of resend" "area of resend" positions "table of audit" "area of audit" scratch; do
+    lent=${block% of *}
+    case $lent in positions | scratch) lent="positions or scratch" ;; esac
     touches read_before "$block" "SEGV" "caused by a READ" "$lent with a closed page in front"
     touches read_behind "$block" "SEGV" "caused by a READ" "$lent with a closed page behind"
     touches write_before "$block" "SEGV" "caused by a WRITE" "$lent with a closed page in front"
@@ -101,6 +102,22 @@ told
 
 engine "a count in an area that is too short"
 wrapped -DEARLY_COUNT && finds "differ in the area" "$origin" "Resend" "proved: +returned 13"
+told
+
+engine "an audit that always says 1"
+wrapped -DALWAYS_MADE && finds "differ in the area" "$origin" "Audit" "proved: +returned 0"
+told
+
+engine "an audit that never says 1"
+wrapped -DNEVER_MADE && finds "differ in the area" "$origin" "Audit" "proved: +returned 0"
+told
+
+engine "an audit that says what its scratch held"
+wrapped -DHELD && finds "differ in the area" "$origin" "Audit" "proved: +returned 0"
+told
+
+engine "a scratch written by a refused audit"
+wrapped -DEARLY_SCRATCH && finds "differ in the scratch" "$origin" "Audit" "proved: +returned (1|2|3|4|14),"
 told
 
 engine "two calls swapped"

@@ -80,6 +80,9 @@ check "a thousand restarts: ledgers equal registers" host_restarts
 check "lines ignored: ledgers differ" host_ignores_lines
 check "wrong hosts: ledgers differ" wrong_hosts
 check "hosts under sanitizers" sanitized_hosts
+check "a table in a file across power cuts" tests/storage.sh
+check "power cuts under sanitizers" tests/storage.sh --sanitized
+check "hosts that lose or invent tables are found out" tests/storage.sh --wrong
 check "an engine that oversteps its areas is caught" tests/overruns.sh
 check "ten seconds of random calls under sanitizers" tests/fuzz.sh 10
 check "no call on the largest table takes twice as long as plain C" tests/bench.sh --short

@@ -1,5 +1,5 @@
-/* The calls of document 01's listing, each of the six once, and then resend, in a program without a C library, for x86-64 Linux. It
-   brings the function that the archive asks for and its own entry. Status 0 where every answer is the documents'. */
+/* The calls of document 01's listing, each of the six once, and then resend and the audit, in a program without a C library, for
+   x86-64 Linux. It brings the function that the archive asks for and its own entry. Status 0 where every answer is the documents'. */
 #include <ckpt.h>
 
 void *memset(void *to, int value, size_t length) {
@@ -12,6 +12,7 @@ enum { N = 2, E = 4 };
 
 static uint8_t table[CKPT_TABLE_LENGTH(N, E)];
 static uint8_t area[CKPT_RESEND_MOST(N, E)];
+static uint8_t scratch[CKPT_SCRATCH_LENGTH(N, E)];
 /* Process 0 at its send, process 1 at the checkpoint before the receipt: the message is in transit. */
 static const uint8_t positions[] = {0, 0, 0, 2, 0, 0, 0, 1};
 #define LENT table, sizeof table, area
@@ -34,6 +35,7 @@ static int listing(void) {
     same &= ANSWERS(ckpt_line(LENT, CKPT_LINE_LENGTH(N), 1), 1, 1);
     same &= ANSWERS(ckpt_failed(LENT, CKPT_FAILED_LENGTH(N), 1), 1, 1, 3, 2);
     same &= ANSWERS(ckpt_resend(table, sizeof table, positions, sizeof positions, area, CKPT_RESEND_LENGTH(1)), 1, 0, 1, 1);
+    same &= ANSWERS(ckpt_audit(LENT, CKPT_AUDIT_LENGTH, scratch, sizeof scratch), 1);
     return same;
 }
 

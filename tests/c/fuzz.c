@@ -21,7 +21,7 @@
 
 /* tests/fuzz: runs a case, which makes its calls by fuzz_call; false where the engines disagree. */
 bool fuzz_case(uint64_t seed, uint64_t number);
-/* tests/fuzz: prints the tally; false where a call was never accepted, or never refused. */
+/* tests/fuzz: prints the tally; false where a call was never accepted, or never refused, or the audit never said 0, or never 1. */
 bool fuzz_tally(void);
 /* Bytes that tests/fuzz wants lent: a table, and what the call is lent besides. */
 struct bytes {
@@ -35,14 +35,14 @@ uint32_t fuzz_call(uint32_t place, const uint32_t *numbers, const struct bytes *
 #define ROOM ((size_t)1 << 20)
 /* A case takes some milliseconds. */
 #define LONGEST_CASE 60
-/* From so many seconds on, every call must have been accepted and refused. */
+/* From so many seconds on, every call must have been accepted and refused, and the audit have said 0 and 1. */
 #define LONG_RUN 5
 
 /* In the order of CALLS in tests/cases. */
-enum call { FRESH, CHECKPOINT, SEND, RECEIPT, LINE, FAILED, RESEND };
-/* What a call is lent at most, in the order of its sort there. */
-enum lent { TABLE, AREA, POSITIONS, LENT };
-static const char *const lent_names[LENT] = {"table", "area", "positions"};
+enum call { FRESH, CHECKPOINT, SEND, RECEIPT, LINE, FAILED, RESEND, AUDIT };
+/* What a call is lent at most, in the order of its sort there: the third is positions or a scratch. */
+enum lent { TABLE, AREA, FURTHER, LENT };
+static const char *const lent_names[LENT] = {"table", "area", "positions or scratch"};
 enum way { HEAP, PAGE_BEHIND, PAGE_IN_FRONT, WAYS };
 static const char *const way_names[WAYS] = {"in a heap block", "with a closed page behind", "with a closed page in front"};
 
@@ -112,7 +112,8 @@ static uint32_t on_engine(enum call call, const uint32_t *x, const struct bytes 
     case RECEIPT: return ckpt_receipt(OF(TABLE), OF(AREA), x[0], x[1], x[2]);
     case LINE: return ckpt_line(OF(TABLE), OF(AREA), x[0]);
     case FAILED: return ckpt_failed(OF(TABLE), OF(AREA), x[0]);
-    case RESEND: return ckpt_resend(OF(TABLE), OF(POSITIONS), OF(AREA));
+    case RESEND: return ckpt_resend(OF(TABLE), OF(FURTHER), OF(AREA));
+    case AUDIT: return ckpt_audit(OF(TABLE), OF(AREA), OF(FURTHER));
     }
     end_badly("no such call");
     return 0;
@@ -179,7 +180,7 @@ int main(int argc, char **argv) {
            seconds, seed);
     fflush(stdout);
     if (!fuzz_tally() && seconds >= LONG_RUN) {
-        fprintf(stderr, "fuzz: a call was never accepted, or never refused\n");
+        fprintf(stderr, "fuzz: a call was never accepted or never refused, or a verdict never given\n");
         return 1;
     }
     return 0;

@@ -1,6 +1,6 @@
 /* The header's names against documents 01 and 02, in what C99 and C++17 have in common. Every row of document 01's table "Where a
    call is stopped" and every row that document 02 adds is met by calls that meet no earlier one; the lengths are the documents';
-   areas of no bytes are refused by their length. */
+   areas of no bytes are refused by their length. The audit's two verdicts are met, whatever its scratch held. */
 #include <ckpt.h>
 #include <ckpt.h> /* once more: it may be included twice */
 
@@ -9,12 +9,13 @@
 
 #include "table.h"
 
-#if CKPT_TABLE_LENGTH(16, 1024) != 262344 || CKPT_RESEND_MOST(16, 1024) != 196612 || CKPT_AREA_TOO_SHORT != 13
+#if CKPT_TABLE_LENGTH(16, 1024) != 262344 || CKPT_RESEND_MOST(16, 1024) != 196612 || CKPT_BAD_SCRATCH != 14 || \
+    CKPT_SCRATCH_LENGTH(16, 1024) != 262344
 #error "the header's macros can't be used by the preprocessor"
 #endif
 
-#if CKPT_VERSION < 300
-#error "a receipt answers four words since 0.3.0"
+#if CKPT_VERSION < 400
+#error "a receipt answers four words since 0.3.0, and ckpt_audit is there since 0.4.0"
 #endif
 
 /* OLD_LENGTH is that of a table of version 0.1.0, OLD_RECEIPT_LENGTH that of a receipt's area before 0.3.0. */
@@ -23,6 +24,7 @@ enum { N = 3, E = 2, NO_BYTES = 0, OLD_LENGTH = 8 + 12 * N * (E + 1), OLD_RECEIP
 static uint8_t table[CKPT_TABLE_LENGTH(N, E)];
 static uint8_t area[CKPT_RESEND_MOST(N, E) + 1];
 static uint8_t positions[CKPT_LINE_LENGTH(N) + 1]; /* as a line answers them, and a byte more */
+static uint8_t scratch[CKPT_SCRATCH_LENGTH(N, E) + 1];
 static int wrong;
 
 static void same(int line, const char *what, unsigned long got, unsigned long stated) {
@@ -34,6 +36,7 @@ static void same(int line, const char *what, unsigned long got, unsigned long st
 
 #define LENT table, sizeof table
 #define POSITIONS positions, CKPT_LINE_LENGTH(N)
+#define SCRATCH scratch, CKPT_SCRATCH_LENGTH(N, E)
 static uint32_t fresh(uint32_t n, uint32_t e) { return ckpt_fresh(LENT, n, e); }
 static uint32_t checkpoint(uint32_t p) { return ckpt_checkpoint(LENT, area, CKPT_CHECKPOINT_LENGTH, p); }
 static uint32_t send(uint32_t p, uint32_t q) { return ckpt_send(LENT, area, CKPT_SEND_LENGTH, p, q); }
@@ -41,6 +44,7 @@ static uint32_t receipt(uint32_t p, uint32_t q, uint32_t k) { return ckpt_receip
 static uint32_t line(uint32_t number) { return ckpt_line(LENT, area, CKPT_LINE_LENGTH(N), number); }
 static uint32_t failed(uint32_t mask) { return ckpt_failed(LENT, area, CKPT_FAILED_LENGTH(N), mask); }
 static uint32_t resend(size_t length) { return ckpt_resend(LENT, POSITIONS, area, length); }
+static uint32_t audit(void) { return ckpt_audit(LENT, area, CKPT_AUDIT_LENGTH, SCRATCH); }
 
 /* All calls with areas of one length return the number, the table being lent with this length, and an area longer than the answer
    by `more` bytes. */
@@ -50,6 +54,7 @@ static void exact(uint32_t number, uint8_t *lent, size_t length, size_t more) {
     SAME(ckpt_receipt(lent, length, area, CKPT_RECEIPT_LENGTH + more, 0, 1, 1), number);
     SAME(ckpt_line(lent, length, area, CKPT_LINE_LENGTH(N) + more, 0), number);
     SAME(ckpt_failed(lent, length, area, CKPT_FAILED_LENGTH(N) + more, 0), number);
+    SAME(ckpt_audit(lent, length, area, CKPT_AUDIT_LENGTH + more, SCRATCH), number);
 }
 
 /* All calls but fresh return the number, the table being lent with this length. */
@@ -82,6 +87,7 @@ static void numbers(void) {
     SAME(CKPT_BAD_MASK, 11);
     SAME(CKPT_BAD_POSITIONS, 12);
     SAME(CKPT_AREA_TOO_SHORT, 13);
+    SAME(CKPT_BAD_SCRATCH, 14);
 }
 
 /* Rows of the table itself: its length, n and E, its words. */
@@ -177,6 +183,64 @@ static void resend_rows(void) {
     SAME(resend(sizeof area), CKPT_BAD_POSITIONS);
 }
 
+/* Audits the table, and leaves the scratch as it was: the call is refused with this number. */
+static void audit_refused(uint32_t number, size_t area_length, size_t scratch_length) {
+    memset(area, 0xee, sizeof area);
+    memset(scratch, 0xee, sizeof scratch);
+    SAME(ckpt_audit(LENT, area, area_length, scratch, scratch_length), number);
+    for (size_t i = 0; i < sizeof area; i++) SAME(area[i], 0xee);
+    for (size_t i = 0; i < sizeof scratch; i++) SAME(scratch[i], 0xee);
+}
+
+/* The audit gives the table this verdict, whatever the scratch held. */
+static void audited(uint32_t verdict) {
+    for (int held = 0; held < 0x100; held += 0x33) {
+        memset(area, 0xee, sizeof area);
+        memset(scratch, held, sizeof scratch);
+        SAME(audit(), CKPT_OK);
+        SAME(ckpt_word(area, 0), verdict);
+        SAME(area[CKPT_AUDIT_LENGTH], 0xee);
+        SAME(scratch[CKPT_SCRATCH_LENGTH(N, E)], (unsigned long)held);
+    }
+}
+
+/* On the table that later_rows left, which calls made, then with words of it changed. */
+static void audit_rows(void) {
+    size_t length = CKPT_SCRATCH_LENGTH(N, E), sent = record_at(E, 0, 1), received = record_at(E, 1, 1);
+    audit_refused(CKPT_BAD_AREA_LENGTH, 0, length);
+    audit_refused(CKPT_BAD_AREA_LENGTH, CKPT_AUDIT_LENGTH + 1, length + 1);
+    audit_refused(CKPT_BAD_SCRATCH, CKPT_AUDIT_LENGTH, 0);
+    audit_refused(CKPT_BAD_SCRATCH, CKPT_AUDIT_LENGTH, length - 1);
+    audit_refused(CKPT_BAD_SCRATCH, CKPT_AUDIT_LENGTH, length + 1);
+    audited(1);
+    put_word(table, received + RECORD_CARRIED, 0); /* the send carried 1 */
+    audited(0);
+    put_word(table, received + RECORD_CARRIED, 2);
+    audit_refused(CKPT_NOT_WELL_LAID, CKPT_AUDIT_LENGTH, length);
+    audit_refused(CKPT_NOT_WELL_LAID, 0, 0);
+    put_word(table, received + RECORD_CARRIED, 1);
+    put_word(table, sent + RECORD_A, 2); /* the send goes to another */
+    audited(0);
+    put_word(table, sent + RECORD_A, 1);
+    audited(1);
+}
+
+/* A table of no run: two receipts wait for each other. */
+static void audit_of_two_that_wait(void) {
+    SAME(fresh(N, E), CKPT_OK);
+    audited(1);
+    SAME(send(0, 1), CKPT_OK);
+    SAME(receipt(1, 0, 1), CKPT_OK);
+    SAME(send(1, 0), CKPT_OK);
+    SAME(receipt(0, 1, 1), CKPT_OK);
+    audited(1);
+    /* Process 0 receives before it sends. */
+    const uint32_t words[2 * CKPT_RECORD_WORDS] = {KIND_RECEIPT, 1, 1, 0, KIND_SEND, 1, 1, 0};
+    for (size_t i = 0; i < sizeof words / sizeof words[0]; i++) put_word(table, record_at(E, 0, 0) + i, words[i]);
+    SAME(line(0), CKPT_OK);
+    audited(0);
+}
+
 /* Number 10 is met only by a table that no call makes: n = 1, E = 2, one kind 1 record numbered 2. */
 static void number_at_limit(void) {
     memset(table, 0, sizeof table);
@@ -203,6 +267,9 @@ static void no_bytes(void) {
     SAME(ckpt_resend(LENT, NULL, NO_BYTES, NULL, NO_BYTES), CKPT_BAD_POSITIONS);
     memset(positions, 0, sizeof positions);
     SAME(ckpt_resend(LENT, POSITIONS, NULL, NO_BYTES), CKPT_AREA_TOO_SHORT);
+    SAME(ckpt_audit(LENT, NULL, NO_BYTES, NULL, NO_BYTES), CKPT_BAD_AREA_LENGTH);
+    SAME(ckpt_audit(LENT, area, CKPT_AUDIT_LENGTH, NULL, NO_BYTES), CKPT_BAD_SCRATCH);
+    SAME(ckpt_audit(NULL, NO_BYTES, NULL, NO_BYTES, NULL, NO_BYTES), CKPT_BAD_TABLE_LENGTH);
 }
 
 static void lengths(void) {
@@ -224,6 +291,10 @@ static void lengths(void) {
     SAME(CKPT_RESEND_LENGTH(n + 1), 112);
     SAME(CKPT_RESEND_MOST(n + 1, e + 1), 4 + 12 * 9 * 257);
     SAME(CKPT_RESEND_MOST(CKPT_MAX_PROCESSES, CKPT_MAX_RECORDS), 196612);
+    SAME(CKPT_AUDIT_LENGTH, 4);
+    SAME(CKPT_SCRATCH_LENGTH(1, 1), 36);
+    SAME(CKPT_SCRATCH_LENGTH(n, e), 32872);
+    SAME(CKPT_SCRATCH_LENGTH(n + 1, e + 1), CKPT_TABLE_LENGTH(9, 257));
     SAME(ckpt_word(high, 1), 0xff8001fe);
 }
 
@@ -245,6 +316,8 @@ int main(void) {
     later_rows();
     carried();
     resend_rows();
+    audit_rows();
+    audit_of_two_that_wait();
     number_at_limit();
     no_bytes();
     return wrong;

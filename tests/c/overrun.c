@@ -1,9 +1,10 @@
-/* An engine that goes wrong, to see that the fuzzer finds it (tests/overruns.sh): ckpt_line, ckpt_send, ckpt_receipt and ckpt_resend
-   of the archive, wrapped by the linker. -DTOUCH is what all but ckpt_receipt do first, one of the functions below, with the lent
-   block that -DTOUCHED names; without these they do what the archive's do. -DWRONG_NUMBER makes ckpt_send return 5 where 6 is due,
-   -DNOTHING_CARRIED makes it leave 0 as the fourth word of its record, -DPLACE_FROM_0 makes ckpt_receipt count the place of the send
-   from 0, -DBEHIND_LIST makes ckpt_resend write the byte after the last entry, and -DEARLY_COUNT the area's first word though the
-   area is too short. Compiled without a sanitizer, as the archive is. */
+/* An engine that goes wrong, to see that the fuzzer finds it (tests/overruns.sh): ckpt_line, ckpt_send, ckpt_receipt, ckpt_resend and
+   ckpt_audit of the archive, wrapped by the linker. -DTOUCH is what all but ckpt_receipt do first, one of the functions below, with
+   the lent block that -DTOUCHED names; without these they do what the archive's do. -DWRONG_NUMBER makes ckpt_send return 5 where 6
+   is due, -DNOTHING_CARRIED makes it leave 0 as the fourth word of its record, -DPLACE_FROM_0 makes ckpt_receipt count the place of
+   the send from 0, -DBEHIND_LIST makes ckpt_resend write the byte after the last entry, and -DEARLY_COUNT the area's first word
+   though the area is too short. -DALWAYS_MADE makes ckpt_audit say 1 of each table, -DNEVER_MADE 0, -DEARLY_SCRATCH makes it write
+   its scratch though it is refused, and -DHELD say what the scratch held before. Compiled without a sanitizer, as the archive is. */
 #include <string.h>
 
 #include "table.h"
@@ -13,6 +14,9 @@ uint32_t __real_ckpt_send(uint8_t *table, size_t table_len, uint8_t *area, size_
 uint32_t __real_ckpt_receipt(uint8_t *table, size_t table_len, uint8_t *area, size_t area_len, uint32_t p, uint32_t q, uint32_t k);
 uint32_t __real_ckpt_resend(const uint8_t *table, size_t table_len, const uint8_t *positions, size_t positions_len, uint8_t *area,
                             size_t area_len);
+
+uint32_t __real_ckpt_audit(const uint8_t *table, size_t table_len, uint8_t *area, size_t area_len, uint8_t *scratch,
+                           size_t scratch_len);
 
 static inline void reads(const uint8_t *byte) {
     (void)*(const volatile uint8_t *)byte;
@@ -108,6 +112,30 @@ uint32_t __wrap_ckpt_resend(const uint8_t *table, size_t table_len, const uint8_
 #endif
 #ifdef EARLY_COUNT
     if (returned == CKPT_AREA_TOO_SHORT && area_len >= 4) area[3] ^= 1;
+#endif
+    return returned;
+}
+
+uint32_t __wrap_ckpt_audit(const uint8_t *table, size_t table_len, uint8_t *area, size_t area_len, uint8_t *scratch,
+                           size_t scratch_len) {
+    lent("table of audit", table, table_len);
+    lent("area of audit", area, area_len);
+    lent("scratch", scratch, scratch_len);
+#ifdef HELD
+    uint8_t held = scratch_len > 0 ? scratch[0] & 1 : 0;
+#endif
+    uint32_t returned = __real_ckpt_audit(table, table_len, area, area_len, scratch, scratch_len);
+#ifdef HELD
+    if (returned == CKPT_OK) area[3] &= held;
+#endif
+#ifdef ALWAYS_MADE
+    if (returned == CKPT_OK) put_word(area, 0, 1);
+#endif
+#ifdef NEVER_MADE
+    if (returned == CKPT_OK) put_word(area, 0, 0);
+#endif
+#ifdef EARLY_SCRATCH
+    if (returned != CKPT_OK && scratch_len > 0) scratch[scratch_len - 1] ^= 1;
 #endif
     return returned;
 }

@@ -10,6 +10,7 @@ enum { PAINT = 0xA5, SMALL_N = 3, SMALL_E = 6 };
 
 static uint8_t table[CKPT_TABLE_LENGTH(CKPT_MAX_PROCESSES, CKPT_MAX_RECORDS)];
 static uint8_t area[CKPT_FAILED_LENGTH(CKPT_MAX_PROCESSES)];
+static uint8_t scratch[sizeof table];
 /* Process 0 at its send, the others at 0. */
 static const uint8_t positions[4 * CKPT_MAX_PROCESSES] = {0, 0, 0, 2};
 static uint32_t n, e, returned;
@@ -24,16 +25,18 @@ static void receipt(void) { returned = ckpt_receipt(TABLE, area, CKPT_RECEIPT_LE
 static void line(void) { returned = ckpt_line(TABLE, area, CKPT_LINE_LENGTH(n), 1); }
 static void failed(void) { returned = ckpt_failed(TABLE, area, CKPT_FAILED_LENGTH(n), 1); }
 static void resend(void) { returned = ckpt_resend(TABLE, positions, 4 * n, area, CKPT_RESEND_LENGTH(1)); }
+static void audit(void) { returned = ckpt_audit(TABLE, area, CKPT_AUDIT_LENGTH, scratch, CKPT_SCRATCH_LENGTH(n, e)); }
 
-/* The calls in an order in which each is accepted. The failure line takes process 1 back too, and resend lists the one message. */
+/* The calls in an order in which each is accepted. The failure line takes process 1 back too, resend lists the one message, and the
+   audit follows it from its send to a receipt that forced. */
 static const struct {
     const char *name;
     void (*call)(void);
     size_t limit;
 } calls[] = {
-    {"ckpt_fresh", fresh, 511},   {"ckpt_checkpoint", checkpoint, 511}, {"ckpt_send", send, 511},
+    {"ckpt_fresh", fresh, 511},     {"ckpt_checkpoint", checkpoint, 511}, {"ckpt_send", send, 511},
     {"ckpt_receipt", receipt, 511}, {"ckpt_line", line, 511},             {"ckpt_failed", failed, 17 * 1024},
-    {"ckpt_resend", resend, 4095},
+    {"ckpt_resend", resend, 4095},  {"ckpt_audit", audit, 1023},
 };
 enum { CALLS = sizeof calls / sizeof calls[0] };
 

@@ -3,20 +3,25 @@
 use crate::{Engine, Origin, Pair};
 use cases::calls::{numbers, CALLS};
 use cases::cut::{self, in_transit, listed};
+use cases::made::{altered, one_word_changed};
 use cases::table::{old_table_length, WIDTH};
 use cases::{
-    area_length, damage, messages, records, remember, step, step_or_line, table_length, well_laid, Call, Rng,
+    area_length, damage, messages, records, remember, scratch_length, step, step_or_line, table_length,
+    to_words, well_laid, Call, Rng,
 };
 use std::collections::{BTreeMap, BTreeSet};
 use std::fmt;
+use std::mem::replace;
 
 /// The most steps of a run from fresh.
 const MOST: u32 = 300;
 
-/// How often each call returned each number, and how many calls were made on tables of the largest dimensions.
+/// How often each call returned each number, how often the audit said 0 and 1, and how many calls were made on tables of
+/// the largest dimensions.
 #[derive(Default)]
 pub struct Tally {
     counts: BTreeMap<(&'static str, u32), u64>,
+    pub verdicts: [u64; 2],
     pub largest: u64,
 }
 
@@ -48,7 +53,8 @@ impl fmt::Display for Tally {
             write!(f, "\n{:10}", call.name)?;
             numbers().iter().try_for_each(|&number| write!(f, "{:>9}", self.count(call.name, number)))?;
         }
-        Ok(())
+        let [unmade, made] = self.verdicts;
+        write!(f, "\naudits that said 1: {made}, 0: {unmade}")
     }
 }
 
@@ -93,6 +99,31 @@ impl Case<'_> {
         self.call_on(Call::Resend, &[&area, &positions])
     }
 
+    /// The audit, mostly with an area and a scratch of the exact lengths, whatever they hold.
+    fn audit(&mut self) -> u32 {
+        let area = area_length(&mut self.rng, Call::Audit.area_length(self.n));
+        let scratch = scratch_length(&mut self.rng, self.n, self.pair.table().len());
+        let (area, scratch) = (self.rng.bytes(area), self.rng.bytes(scratch));
+        let returned = self.call_on(Call::Audit, &[&area, &scratch]);
+        if returned == 0 {
+            let answer = to_words(self.pair.areas().next().expect("an area"));
+            self.tally.verdicts[answer[0] as usize] += 1;
+        }
+        returned
+    }
+
+    /// Audits of the table with a place of it changed, three in four of them well laid again.
+    fn audits_of_changed(&mut self) {
+        for _ in 0..4 {
+            let (table, rng) = (self.pair.table(), &mut self.rng);
+            let changed = if rng.one_in(4) { one_word_changed(rng, table) } else { altered(rng, table) };
+            let pair = self.pair.on_other(&changed);
+            let own = replace(&mut self.pair, pair);
+            self.audit();
+            self.pair = own;
+        }
+    }
+
     /// Fresh, now and then with other dimensions than the table's.
     fn fresh(&mut self) -> u32 {
         let (n, e) = (self.n, self.e);
@@ -104,12 +135,14 @@ impl Case<'_> {
         self.call(call)
     }
 
-    /// Steps, lines and resends on the table as it is, whose messages are known.
+    /// Steps, lines, resends and audits on the table as it is, whose messages are known.
     pub fn steps(&mut self, count: u32, mut known: Vec<Call>) {
         for _ in 0..count {
-            if self.rng.one_in(12) {
-                self.resend();
-            }
+            match self.rng.below(24) {
+                0 | 1 => self.resend(),
+                2 => self.audit(),
+                _ => 0,
+            };
             let call = step_or_line(&mut self.rng, self.n, self.e, &known);
             if self.call(call) == 0 {
                 remember(&mut self.rng, &mut known, call, self.pair.table());
@@ -123,11 +156,13 @@ impl Case<'_> {
         assert_eq!(self.call(Call::Fresh { n, e }), 0, "{}", self.pair.origin());
         let count = self.rng.below(2 * n * e + 8).min(MOST);
         self.steps(count, Vec::new());
+        self.audits_of_changed();
     }
 
     /// Steps and lines on a well laid table that no run made.
     fn run_from_well_laid(&mut self) {
         let known = messages(self.pair.table());
+        self.audit();
         self.steps(24, known);
         self.fresh();
     }
@@ -145,6 +180,7 @@ impl Case<'_> {
         self.call(Call::Line { number });
         self.call(Call::Failed { mask });
         self.resend_on(&cut, length);
+        self.audit();
         self.fresh();
     }
 }

@@ -101,6 +101,7 @@ pub fn on_proved(call: Call, lent: &mut [&mut [u8]]) -> u32 {
         (Call::Line { number }, [table, area]) => ckpt::line(table, area, number),
         (Call::Failed { mask }, [table, area]) => ckpt::failed(table, area, mask),
         (Call::Resend, [table, area, positions]) => ckpt::resend(table, positions, area),
+        (Call::Audit, [table, area, scratch]) => ckpt::audit(table, area, scratch),
         (_, lent) => panic!("{call:?} with {} lent areas", lent.len()),
     }
 }
@@ -130,6 +131,11 @@ impl Pair {
     pub fn on(engine: Engine, table: &[u8], origin: Origin) -> Pair {
         let (proved, reference) = (vec![Guarded::new(table)], vec![Guarded::new(table)]);
         Pair { engine, proved, reference, before: table.to_vec(), origin }
+    }
+
+    /// A pair on another table, its calls made and named as this one's are.
+    pub fn on_other(&self, table: &[u8]) -> Pair {
+        Pair::on(self.engine, table, self.origin)
     }
 
     /// A pair on which fresh has made a table, over bytes that were no table.
@@ -186,18 +192,32 @@ impl Pair {
         let before = once(&self.before[..]).chain(areas.iter().copied());
         for ((bytes, (own, other)), before) in lent().zip(before) {
             let kept = own.content() == before;
-            keeps(own.content() == other.content(), "the engines differ in the", bytes.name())?;
+            let open = bytes.is_left_open() && returned == 0;
+            keeps(open || own.content() == other.content(), "the engines differ in the", bytes.name())?;
             keeps(kept || returned == 0, "a refused call changed the", bytes.name())?;
             keeps(kept || bytes.may_change(), "a call that only reads it changed the", bytes.name())?;
         }
         Ok(())
     }
 
-    /// The call with an area of the exact length. Answers the number returned and, if it is 0, the answer's words.
+    /// The call with an area of the exact length, and for the audit with a scratch as long as the table. Answers the number
+    /// returned and, if it is 0, the answer's words.
     pub fn exact(&mut self, call: Call) -> (u32, Vec<u32>) {
         let n = u32::from_be_bytes(self.table()[..4].try_into().unwrap());
-        let (returned, area) = self.call(call, &vec![0xEE; call.area_length(n)]);
-        (returned, if returned == 0 { cases::to_words(&area) } else { Vec::new() })
+        let scratch = if call == Call::Audit { self.table().len() } else { 0 };
+        let area = vec![0xEE; call.area_length(n)];
+        let returned = self.call_on(call, call.areas(&[&area, &vec![0xEE; scratch]]));
+        let answer = self.areas().next().map(cases::to_words).unwrap_or_default();
+        (returned, if returned == 0 { answer } else { Vec::new() })
+    }
+
+    /// What the audit, which must be accepted, says of the table: 1 or 0. The scratch holds these bytes before.
+    pub fn audited(&mut self, scratch: &[u8]) -> u32 {
+        let returned = self.call_on(Call::Audit, &[&[0xEE; 4], scratch]);
+        assert_eq!(returned, 0, "the audit is refused: {}", self.origin);
+        let verdict = cases::to_words(self.proved[1].content())[0];
+        assert!(verdict <= 1, "{verdict}: {}", self.origin);
+        verdict
     }
 
     /// Resend at these positions with an area of these bytes. Answers the number returned and the area.

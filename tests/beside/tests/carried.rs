@@ -35,7 +35,7 @@ fn laid() -> [Vec<Record>; 2] {
     ]
 }
 
-/// The number returned, by resend at the counts of `laid`.
+/// The number returned, by resend at the counts of `laid`, by the audit with a scratch as long as the table.
 fn returned(table: &[u8], call: Call) -> u32 {
     let mut pair = Pair::new(table, ORIGIN);
     match call {

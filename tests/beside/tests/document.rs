@@ -7,7 +7,7 @@ use cases::table::{
     changed, checkpoint, forced, record, section, words_of_records, A, B, CARRIED, COUNT, KIND, NUMBER,
     SENDS, WIDTH,
 };
-use cases::Call::{self, Checkpoint, Failed, Fresh, Line, Receipt, Resend, Send};
+use cases::Call::{self, Audit, Checkpoint, Failed, Fresh, Line, Receipt, Resend, Send};
 use cases::{from_records, from_words, records, table_length, to_words};
 
 const ORIGIN: Origin = Origin { test: "document 01", seed: 0, case: 0 };
@@ -198,6 +198,7 @@ fn empty_slices_without_bytes_behind_them() {
     assert_eq!(ckpt::line(&[], &mut [], 0), 2);
     assert_eq!(ckpt::failed(&[], &mut [], 0), 2);
     assert_eq!(ckpt::resend(&[], &[], &mut []), 2);
+    assert_eq!(ckpt::audit(&[], &mut [], &mut []), 2);
     let mut table = worked_controller().table().to_vec();
     let before = table.clone();
     assert_eq!(ckpt::checkpoint(&mut table, &mut [], 0), 4);
@@ -207,6 +208,8 @@ fn empty_slices_without_bytes_behind_them() {
     assert_eq!(ckpt::failed(&table, &mut [], 0), 4);
     assert_eq!(ckpt::resend(&table, &[], &mut []), 12);
     assert_eq!(ckpt::resend(&table, &[0; 12], &mut []), 13);
+    assert_eq!(ckpt::audit(&table, &mut [], &mut []), 4);
+    assert_eq!(ckpt::audit(&table, &mut [0; 4], &mut []), 14);
     assert_eq!(table, before);
 }
 
@@ -275,6 +278,7 @@ fn the_first_row_met_is_returned() {
         Receipt { p: 3, q: 3, k: 0 },
         Line { number: MAX },
         Failed { mask: 8 },
+        Audit,
     ];
     for call in outside {
         for (table, returned) in bad_tables() {
@@ -314,6 +318,8 @@ fn the_first_row_met_is_returned() {
     for mask in [8, 9, 15, 1 << 16, 1 << 31, MAX] {
         check(&full, Failed { mask }, 20, 11);
     }
+    // The scratch has no bytes here: tests/audit.rs has other lengths.
+    check(&full, Audit, 4, 14);
 
     // Nothing is met any more.
     check(&one_free_at(11), Checkpoint { p: 0 }, 4, 0);

@@ -22,6 +22,7 @@ fn random_calls() {
     println!("random calls: {} with CKPT_SEED={}\n{tally}", tally.total(), seed());
     println!("of these on tables with n = 16, E = 1024: {}", tally.largest);
     assert!(tally.total() >= 1_000_000 && tally.largest >= 1_000);
+    assert!(tally.verdicts.iter().all(|&count| count >= 20_000), "{:?}", tally.verdicts);
     for call in CALLS {
         assert_eq!(tally.met(call.name), call.numbers(), "numbers that {} returned", call.name);
     }

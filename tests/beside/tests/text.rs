@@ -123,6 +123,8 @@ const UNREADABLE: &[&[u8]] = &[
     b"freshe,1,2,",
     b"fres,1,2,",
     b"resend,0,1,",
+    b"audit,,,",
+    b"audit,0,,",
     b"0,checkpoint,,",
     b"checkpoint;0;;",
     // capital letters

@@ -1,23 +1,30 @@
 //! The calls: what each is lent, what it can return, and how it reaches the reference engine.
 use std::collections::BTreeSet;
 
-/// Bytes that a call is lent, by name: it reads them, or may write them too.
+/// Bytes that a call is lent, by name: it reads them, or may write them too. What a scratch holds after an accepted call
+/// is left open.
 #[derive(Clone, Copy, Debug, PartialEq, Eq)]
 pub enum Lent {
     Read(&'static str),
     Written(&'static str),
+    Scratch(&'static str),
 }
 
 impl Lent {
     pub fn name(self) -> &'static str {
         match self {
-            Lent::Read(name) | Lent::Written(name) => name,
+            Lent::Read(name) | Lent::Written(name) | Lent::Scratch(name) => name,
         }
     }
 
     /// Whether an accepted call may change it.
     pub fn may_change(self) -> bool {
-        matches!(self, Lent::Written(_))
+        matches!(self, Lent::Written(_) | Lent::Scratch(_))
+    }
+
+    /// Whether two engines may leave different bytes in it after an accepted call.
+    pub fn is_left_open(self) -> bool {
+        matches!(self, Lent::Scratch(_))
     }
 }
 
@@ -34,6 +41,7 @@ const TABLE_READ: Lent = Lent::Read("table");
 const TABLE: Lent = Lent::Written("table");
 const AREA: Lent = Lent::Written("area");
 const POSITIONS: Lent = Lent::Read("positions");
+const SCRATCH: Lent = Lent::Scratch("scratch");
 
 /// In the header's order.
 pub static CALLS: &[Sort] = &[
@@ -44,6 +52,7 @@ pub static CALLS: &[Sort] = &[
     Sort { name: "line", lent: &[TABLE_READ, AREA], rows: &[2, 1, 2, 3, 4] },
     Sort { name: "failed", lent: &[TABLE_READ, AREA], rows: &[2, 1, 2, 3, 4, 11] },
     Sort { name: "resend", lent: &[TABLE_READ, AREA, POSITIONS], rows: &[2, 1, 2, 3, 12, 13] },
+    Sort { name: "audit", lent: &[TABLE_READ, AREA, SCRATCH], rows: &[2, 1, 2, 3, 4, 14] },
 ];
 
 impl Sort {
@@ -67,6 +76,7 @@ pub enum Call {
     Line { number: u32 },
     Failed { mask: u32 },
     Resend,
+    Audit,
 }
 
 impl Call {
@@ -80,6 +90,7 @@ impl Call {
             Call::Line { number } => ("line", [Some(number), None, None]),
             Call::Failed { mask } => ("failed", [Some(mask), None, None]),
             Call::Resend => ("resend", [None; 3]),
+            Call::Audit => ("audit", [None; 3]),
         }
     }
 
@@ -103,7 +114,7 @@ impl Call {
     pub fn area_length(self, n: u32) -> usize {
         match self {
             Call::Fresh { .. } => 0,
-            Call::Checkpoint { .. } | Call::Resend => 4,
+            Call::Checkpoint { .. } | Call::Resend | Call::Audit => 4,
             Call::Send { .. } => 8,
             Call::Receipt { .. } => 16,
             Call::Line { .. } => 4 * n as usize,
@@ -116,7 +127,8 @@ impl Call {
         &areas[..self.sort().lent.len() - 1]
     }
 
-    /// The call as a line of the text program has it, without the line's end. It has no word for resend.
+    /// The call as a line of the text program has it, without the line's end. It has no word for
+    /// resend and the audit.
     pub fn text(self) -> String {
         let (name, numbers) = self.parts();
         let [a, b, c] = numbers.map(|number| number.map_or_else(String::new, |number| number.to_string()));
@@ -134,6 +146,7 @@ pub fn on_reference(call: Call, lent: &mut [&mut [u8]]) -> u32 {
         (Call::Line { number }, [table, area]) => reference::line(table, area, number),
         (Call::Failed { mask }, [table, area]) => reference::failed(table, area, mask),
         (Call::Resend, [table, area, positions]) => reference::resend(table, positions, area),
+        (Call::Audit, [table, area, scratch]) => reference::audit(table, area, scratch),
         (_, lent) => panic!("{call:?} with {} lent areas", lent.len()),
     }
 }

@@ -6,13 +6,14 @@ use crate::table::{
 use crate::Call;
 
 /// One call of each kind but fresh.
-pub const ONE_OF_EACH: [Call; 6] = [
+pub const ONE_OF_EACH: [Call; 7] = [
     Call::Checkpoint { p: 0 },
     Call::Send { p: 0, q: 1 },
     Call::Receipt { p: 0, q: 1, k: 1 },
     Call::Line { number: 0 },
     Call::Failed { mask: 0 },
     Call::Resend,
+    Call::Audit,
 ];
 
 /// Document 01's worked controller, n = 3, E = 6: the steps after fresh.

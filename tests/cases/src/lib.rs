@@ -2,6 +2,7 @@
 pub mod calls;
 pub mod chosen;
 pub mod cut;
+pub mod made;
 pub mod table;
 
 pub use calls::{on_reference, Call};
@@ -148,6 +149,16 @@ pub fn area_length(rng: &mut Rng, exact: usize) -> usize {
         ])
     } else {
         exact
+    }
+}
+
+/// A scratch's length: mostly the table's.
+pub fn scratch_length(rng: &mut Rng, n: u32, table: usize) -> usize {
+    if rng.one_in(16) {
+        let words = 8 * n as usize;
+        rng.pick(&[0, 1, 4, words, table + 1, table + 4, table.saturating_sub(1), table.saturating_sub(4)])
+    } else {
+        table
     }
 }
 

@@ -49,6 +49,14 @@ mod c {
             area: *mut u8,
             area_len: usize,
         ) -> u32;
+        pub fn ckpt_audit(
+            table: *const u8,
+            table_len: usize,
+            area: *mut u8,
+            area_len: usize,
+            scratch: *mut u8,
+            scratch_len: usize,
+        ) -> u32;
     }
 }
 
@@ -82,4 +90,9 @@ pub fn failed(table: &[u8], area: &mut [u8], mask: u32) -> u32 {
 pub fn resend(table: &[u8], positions: &[u8], area: &mut [u8]) -> u32 {
     let (own, cut) = (table.as_ptr(), positions.as_ptr());
     unsafe { c::ckpt_resend(own, table.len(), cut, positions.len(), area.as_mut_ptr(), area.len()) }
+}
+
+pub fn audit(table: &[u8], area: &mut [u8], scratch: &mut [u8]) -> u32 {
+    let (own, room) = (table.as_ptr(), scratch.as_mut_ptr());
+    unsafe { c::ckpt_audit(own, table.len(), area.as_mut_ptr(), area.len(), room, scratch.len()) }
 }
