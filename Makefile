@@ -31,6 +31,7 @@ program: target/bin/ckpt
 target/bin/ckpt: $(sources)
 	@mkdir -p target/bin
 	@(cd crates/ckpt && rt run --cpu x86-64 < /dev/null) > target/program.log 2>&1 || { cat target/program.log; exit 1; }
+	@cp crates/ckpt/out/ckpt.o target/ckpt.o
 	@cp crates/ckpt/out/ckpt $@
 
 # runs the worked controller of document 01 from C
@@ -78,8 +79,8 @@ uninstall:
 fuzz: lib
 	@tests/fuzz.sh $(SECONDS) $(SEED) $(CASE)
 
-# what the archive takes of a controller's memory
-sizes: lib
+# what the archive takes of a controller's memory, and the text program's code and constants
+sizes: lib program
 	@tests/sizes.sh
 
 # times each call beside the same call in plain C, prints the tables and writes bench/RESULTS.md

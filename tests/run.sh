@@ -69,6 +69,7 @@ examples_answered() {
 }
 
 check "the engine's archive" make lib
+check "the text program is there" program_made
 check "the worked controller from C" worked_host
 check "the header as C99 and the documents' tables" header_in_c99
 check "the header as C++17" header_in_cpp17
@@ -87,7 +88,6 @@ check "an engine that oversteps its areas is caught" tests/overruns.sh
 check "ten seconds of random calls under sanitizers" tests/fuzz.sh 10
 check "no call on the largest table takes twice as long as plain C" tests/bench.sh --short
 check "the bench refuses engines that are slow or wrong" tests/bench.sh --faults
-check "the text program is there" program_made
 check "the examples are answered as written" examples_answered
 check "the reference engine and the peer are as they were taken over" vendored_unchanged
 check "the vectors are what the reference engine gives" vectors_current Vectors.antt

@@ -1,3 +1,1 @@
-pub mod Powers
 pub mod Texts
-pub mod Digits

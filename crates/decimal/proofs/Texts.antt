@@ -1,26 +1,11 @@
 -- Text that is written one piece after the other.
-use mathlib.Core.Path.{◌≡◌, refl, ◌∙◌, sym, ap}
-use mathlib.Core.List.{List, [], ◌++◌, append-nil, append_assoc}
+use mathlib.Core.Path.{◌≡◌, ◌∙◌, sym, ap}
+use mathlib.Core.List.{List, ◌++◌, append_assoc}
 use Prim.Native.Nat.{ℕ, ◌+◌, ◌≤◌}
 use native.Mathlib.Omega.{arith}
 use lib.ListN.{length, drop, length-append}
 use lib.Seq.{drop-drop}
 use Rattle.decimal.specs.Output.{Page, Writes}
-
--- ---- one text
-
-pub writes_none : (out : Page) → Writes out [] 0 out
-writes_none out = record { room = refl; text = sym (append-nil out.written); rest = refl; most = omega arith }
-
--- the same text, said otherwise, and with more bytes at most
-pub writes_as : {out out₁ : Page} {s t : List ℕ} {m n : ℕ} → s ≡ t → m ≤ n → Writes out s m out₁ → Writes out t n out₁
-writes_as {out} {out₁} {s} {t} {m} {n} e le h =
-    record {
-      room = h.room;
-      text = h.text ∙ ap (λ (l : List ℕ). out.written ++ l) e;
-      rest = h.rest ∙ ap (λ (l : List ℕ). drop (length l) out.rest) e;
-      most = omega (arith, h.most, ap length e);
-    }
 
 -- one text after another
 pub writes_both : {out out₁ out₂ : Page} {s t : List ℕ} {m n k : ℕ} → m + n ≤ k → Writes out s m out₁ → Writes out₁ t n out₂ → Writes out (s ++ t) k out₂
@@ -41,9 +26,6 @@ writes_both {out} {out₁} {out₂} {s} {t} {m} {n} {k} le g h =
 -- the text s is written, but for its end `left`; what is written has m bytes at most
 abbrev pub Writing : Page → List ℕ → ℕ → Page → List ℕ → Type 0
 Writing before s m out left = (p : List ℕ) × (p ++ left ≡ s) × Writes before p m out
-
-pub writing_starts : (before : Page) {s left : List ℕ} {m : ℕ} → left ≡ s → Writing before s m before left
-writing_starts before e = ([], e, writes_as refl (omega arith) (writes_none before))
 
 -- the next piece, t
 pub writing_on : {before out out₁ : Page} {s t left : List ℕ} {m n k : ℕ} → m + n ≤ k → Writing before s m out (t ++ left) → Writes out t n out₁

@@ -1,5 +1,5 @@
 -- What the functions that write text promise.
-use Rattle.std.specs.Prelude.{◌≡◌, List, ◌++◌, ℕ, ◌+◌, ◌-◌, ◌^◌, ◌≤◌, ◌<◌, length, drop}
+use Rattle.std.specs.Prelude.{◌≡◌, List, ◌++◌, ℕ, ◌+◌, ◌≤◌, length, drop}
 
 -- memory that a text is written to: what is written, and the bytes behind it
 pub record Page : Type 0 where
@@ -15,7 +15,3 @@ pub record Writes (before : Page) (s : List ℕ) (n : ℕ) (after : Page) : Type
   pub text : after.written ≡ before.written ++ s
   pub rest : after.rest ≡ drop (length s) before.rest
   pub most : length s ≤ n
-
--- v has k digits, up to ten, and 0 has one
-abbrev pub Digits : ℕ → ℕ → Type 0
-Digits v k = (1 ≤ k) × (k ≤ 10) × (v < 10 ^ k) × (1 < k → 10 ^ (k - 1) ≤ v)

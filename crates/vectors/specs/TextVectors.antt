@@ -6,7 +6,7 @@ use Rattle.xdr.specs.Words.{word, put_word, put_words}
 use Rattle.rules.specs.Table.{layout, decoded, well_laid}
 use Rattle.rules.specs.FailureLine.{round, rounds, failure_line}
 use Rattle.rules.specs.Calls.{failure_answer, fresh_on, step_on, line_on, failed_on}
-use Rattle.rules.specs.Text.{text_output, read_line}
+use Rattle.rules.specs.Text.{decimal, text_output, read_line}
 
 -- First lines: none, unreadable ones, another word, dimensions out of range, fresh with and without CR LF.
 abbrev opening : List (List ℕ)
@@ -227,6 +227,21 @@ calls_outputs = (48 ∷ 44 ∷ 44 ∷ 44 ∷ 44 ∷ 13 ∷ 10 ∷ 48 ∷ 44 ∷ 
 pub calls_agree : map text_output calls ≡ calls_outputs
 unfolding text_output read_line fresh_on step_on line_on failed_on layout decoded well_laid word put_word put_words failure_answer failure_line rounds round ones ones_in
 calls_agree = refl
+
+-- Numbers of one to ten digits at their edges, as Rust's standard library writes them, which is how the reference does.
+abbrev edges : List ℕ
+edges = 0 ∷ 1 ∷ 9 ∷ 10 ∷ 99 ∷ 100 ∷ 999 ∷ 1000 ∷ 9999 ∷ 10000 ∷ 99999 ∷ 100000 ∷ 999999 ∷ 1000000 ∷ 9999999 ∷ 10000000 ∷ 99999999 ∷ 100000000 ∷ 999999999
+    ∷ 1000000000 ∷ 4294967295 ∷ []
+
+abbrev edges_digits : List (List ℕ)
+edges_digits = (48 ∷ []) ∷ (49 ∷ []) ∷ (57 ∷ []) ∷ (49 ∷ 48 ∷ []) ∷ (57 ∷ 57 ∷ []) ∷ (49 ∷ 48 ∷ 48 ∷ []) ∷ (57 ∷ 57 ∷ 57 ∷ []) ∷ (49 ∷ 48 ∷ 48 ∷ 48 ∷ [])
+    ∷ (57 ∷ 57 ∷ 57 ∷ 57 ∷ []) ∷ (49 ∷ 48 ∷ 48 ∷ 48 ∷ 48 ∷ []) ∷ (57 ∷ 57 ∷ 57 ∷ 57 ∷ 57 ∷ []) ∷ (49 ∷ 48 ∷ 48 ∷ 48 ∷ 48 ∷ 48 ∷ []) ∷ (57 ∷ 57 ∷ 57 ∷ 57 ∷ 57
+    ∷ 57 ∷ []) ∷ (49 ∷ 48 ∷ 48 ∷ 48 ∷ 48 ∷ 48 ∷ 48 ∷ []) ∷ (57 ∷ 57 ∷ 57 ∷ 57 ∷ 57 ∷ 57 ∷ 57 ∷ []) ∷ (49 ∷ 48 ∷ 48 ∷ 48 ∷ 48 ∷ 48 ∷ 48 ∷ 48 ∷ []) ∷ (57 ∷ 57
+    ∷ 57 ∷ 57 ∷ 57 ∷ 57 ∷ 57 ∷ 57 ∷ []) ∷ (49 ∷ 48 ∷ 48 ∷ 48 ∷ 48 ∷ 48 ∷ 48 ∷ 48 ∷ 48 ∷ []) ∷ (57 ∷ 57 ∷ 57 ∷ 57 ∷ 57 ∷ 57 ∷ 57 ∷ 57 ∷ 57 ∷ []) ∷ (49 ∷ 48
+    ∷ 48 ∷ 48 ∷ 48 ∷ 48 ∷ 48 ∷ 48 ∷ 48 ∷ 48 ∷ []) ∷ (52 ∷ 50 ∷ 57 ∷ 52 ∷ 57 ∷ 54 ∷ 55 ∷ 50 ∷ 57 ∷ 53 ∷ []) ∷ []
+
+pub edges_agree : map decimal edges ≡ edges_digits
+edges_agree = refl
 
 -- Runs as they are drawn, a byte changed in every second one.
 abbrev drawn : List (List ℕ)

@@ -19,7 +19,7 @@ use Rattle.xdr.specs.Words.{word, put_word, put_words}
 use Rattle.rules.specs.Table.{layout, decoded, well_laid}
 use Rattle.rules.specs.FailureLine.{round, rounds, failure_line}
 use Rattle.rules.specs.Calls.{failure_answer, fresh_on, step_on, line_on, failed_on}
-use Rattle.rules.specs.Text.{text_output, read_line}
+use Rattle.rules.specs.Text.{decimal, text_output, read_line}
 ";
 
 const UNFOLDING: &str = "unfolding text_output read_line fresh_on step_on line_on failed_on layout decoded well_laid word put_word put_words failure_answer failure_line rounds round ones ones_in";
@@ -61,6 +61,28 @@ impl File {
         self.bytes += inputs.iter().map(Vec::len).sum::<usize>();
         self.outputs.extend(outputs.iter().flat_map(|output| [b"\r\n", output.as_slice()].concat()));
     }
+
+    /// Writes numbers as one list, their digits as another, and the theorem that the definition gives them.
+    fn decimals(&mut self, note: &str, numbers: &[u32]) {
+        let digits: Vec<Vec<u8>> = numbers.iter().map(|number| number.to_string().into_bytes()).collect();
+        let mut pieces: Vec<String> = numbers.iter().map(u32::to_string).collect();
+        pieces.push(String::from("[]"));
+        let given = wrapped("edges =", &pieces);
+        let wanted = bytes_of_each("edges_digits =", &digits);
+        self.text += &format!(
+            "\n-- {note}\nabbrev edges : List ℕ\n{given}\n\nabbrev edges_digits : List (List ℕ)\n{wanted}\n\n\
+             pub edges_agree : map decimal edges ≡ edges_digits\nedges_agree = refl\n"
+        );
+    }
+}
+
+/// The least and the greatest number of each length, up to 32 bits.
+fn edges() -> Vec<u32> {
+    let mut numbers = vec![0];
+    for power in (0..10).map(|exponent| 10_u32.pow(exponent)) {
+        numbers.extend([power, power.checked_mul(10).map_or(u32::MAX, |next| next - 1)]);
+    }
+    numbers
 }
 
 /// Each as it is.
@@ -191,6 +213,9 @@ pub fn text() -> String {
         b"fresh,1,2,\r\ncheckpoint,0,,\r\nfresh,9,1,\r\nfresh,1,2,\r\ncheckpoint,0,,\r\nfailed,1,,",
     ];
     file.group("calls", note, &whole(&calls));
+
+    let note = "Numbers of one to ten digits at their edges, as Rust's standard library writes them, which is how the reference does.";
+    file.decimals(note, &edges());
 
     let mut rng = Rng::new(SEED);
     file.group("drawn", "Runs as they are drawn, a byte changed in every second one.", &runs(&mut rng));
