@@ -70,31 +70,6 @@ module _ (from : ℕ) (to : List ℕ) where
           let ne : k ≢ suc (sends h) = (λ s. z (omega arith)) in
           noted_there (sent q) h k z ∙ r (omega arith) ∙ (rw (ne_eqb k (suc (sends h)) ne))
 
-  -- behind them 16 stays noted
-  pub noted_blank : ((i : ℕ) → from < i → i < length to → get_or to i 0 ≡ 16) → (h : History) → from + length h < length to → (k : ℕ) → sends h < k
-      → from + k < length to → get_or (noted from h to) (from + k) 0 ≡ 16
-  noted_blank blank [] room k lt in_List = blank (from + k) (omega arith) in_List
-  noted_blank blank (e ∷ h) room k lt in_List = go e lt (ℕ_discrete k (sends h + 1)) (noted_blank blank h (omega arith) k)
-    where
-      last : (x : Event) → note_of x ≡ 16 → k ≡ sends h + 1 → get_or (noted from (x ∷ h) to) (from + k) 0 ≡ 16
-      last x s z =
-          let i : from + k ≡ from + sends h + 1 = omega arith in
-          ap (λ (y : ℕ). get_or (noted from (x ∷ h) to) y 0) i ∙ noted_here x h room ∙ s
-
-      go : (x : Event) → sends (x ∷ h) < k → Dec (k ≡ sends h + 1) → (sends h < k → from + k < length to → get_or (noted from h to) (from + k) 0 ≡ 16)
-          → get_or (noted from (x ∷ h) to) (from + k) 0 ≡ 16
-      go (basic m) l (yes z) r = last (basic m) refl z
-      go (forced m) l (yes z) r = last (forced m) refl z
-      go (received q j c) l (yes z) r = last (received q j c) refl z
-      go (sent q) l (yes z) r = absurd (omega arith)
-      go x l (no z) r = noted_there x h k z ∙ r (less x l) in_List
-        where
-          less : (x : Event) → sends (x ∷ h) < k → sends h < k
-          less (basic m) y = y
-          less (forced m) y = y
-          less (received q j c) y = y
-          less (sent q) y = omega arith
-
 -- ---- receipts struck
 
 once_length : (p : ℕ) (x : Option ℕ) (to : List ℕ) → length (struck_once p x to) ≡ length to

@@ -7,7 +7,7 @@ ghost use Rattle.rules.specs.Lines.{upto, is_checkpoint};
 ghost use Rattle.rules.specs.FailureLine.{last_saved};
 ghost use Rattle.events.specs.Events.{meant, held};
 ghost use Rattle.cuts.specs.Parts.{counts};
-ghost use Rattle.cuts.specs.Tests.{late, note_index, unsent};
+ghost use Rattle.cuts.specs.Tests.{late, noted_astray};
 ghost use Rattle.cuts.specs.Notes.{note_of, noted, place_in, Inside, struck};
 
 use events::{Event, Records, Test};
@@ -80,41 +80,8 @@ impl<'a> Test for Late<'a> {
     }
 }
 
-// Where send k of process q stands in a list of len notes, 0 where it does not: a note there is nobody's, so that a test needs no branch
-// for it.
-fn note_index(e: usize, len: usize, q: usize, k: usize) -> usize
-    requires { (e ≤ 1024) × (q < 4294967296) × (k < 4294967296) }
-    ensures { result ≡ note_index e len q k }
-{
-    let x = q * e + k;
-    if x < len { x } else { 0 }
-}
-
-// The test for a receipt at process p where another process is noted for its send, or none; each process has e notes.
-#[derive(Clone, Copy, Drop)]
-pub struct Unsent<'a> {
-    pub e: usize,
-    pub p: u8,
-    pub to: &'a [u8],
-    ghost few: { e ≤ 1024 },
-    ghost some: { 0 < length to.now },
-}
-
-impl<'a> Test for Unsent<'a> {
-    ghost passes = { λ test. unsent test.e test.p test.to.now };
-
-    fn test(&self, event: Event) -> bool {
-        match event {
-            Event::Received { from, k, .. } => {
-                self.to[note_index(self.e, self.to.len(), from as usize, k as usize)] != self.p
-            },
-            _ => false,
-        }
-    }
-}
-
 // What is noted at the place of the next send once a record is read: its destination, 16 if it is no send. A note is one byte; an `Option`
-// would be two, and there are 16,384.
+// would be two, and there are up to 3,072.
 fn note_of(event: Event) -> u8
     ensures { result ≡ note_of (meant event) }
 {
@@ -155,9 +122,32 @@ impl Span {
     }
 }
 
+// The test for a receipt of process p whose send is noted, as one to another process.
+#[derive(Clone, Copy, Drop)]
+pub struct Astray<'a> {
+    pub spans: &'a [Span; 16],
+    pub p: u8,
+    pub to: &'a [u8],
+    ghost inside: { Inside spans.now (length to.now) },
+}
+
+impl<'a> Test for Astray<'a> {
+    ghost passes = { λ test. noted_astray test.spans.now test.p test.to.now };
+
+    fn test(&self, event: Event) -> bool {
+        match event {
+            Event::Received { from, k, .. } => match self.spans[(from % 16) as usize].place(k) {
+                Some(x) => self.to[x] != self.p,
+                None => false,
+            },
+            _ => false,
+        }
+    }
+}
+
 // Strikes from the notes what process p has received: where p is noted for one of its receipts, 16 is noted instead.
 //
-// `Inside` is asked for here alone: a type that holds it would be one of spans and notes, made for this call.
+// `Inside` is asked for here: a type that holds it, as `Astray` does, would be one of spans and notes, made for this call.
 pub fn strike(records: &Records, spans: &[Span; 16], p: u8, to: &mut [u8])
     requires { Inside spans.now (length to.old) }
     ensures { to.new ≡ struck spans.now p (held records.now) to.old }

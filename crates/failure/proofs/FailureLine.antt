@@ -11,7 +11,7 @@ use lib.Seq.{get_or-append-add}
 use lib.Count.{ones}
 use Rattle.xdr.specs.Words.{word, put_word, put_each, put_words}
 use Rattle.xdr.proofs.Puts.{each_same, each_put}
-use Rattle.rules.specs.Records.{State}
+use Rattle.rules.specs.Records.{State, history}
 use Rattle.rules.specs.Table.{decoded}
 use Rattle.rules.specs.Lines.{goes_back_at, mask_below, back_mask}
 use Rattle.rules.specs.FailureLine.{failure_line}
@@ -19,6 +19,7 @@ use Rattle.rules.specs.Calls.{outcome, first, table_rows, failure_rows, failure_
 use Rattle.records.proofs.Rows.{judged_done}
 use Rattle.records.proofs.FailureLines.{failure_line_lem}
 use Rattle.records.proofs.Masks.{mask_lt}
+use Rattle.tables.proofs.Laid.{Legal}
 use Rattle.std.specs.Prelude.{Result}
 use Rattle.std.specs.Result.{IsErrAnd}
 use Rattle.refusals.specs.Refusals.{number_of, returned}
@@ -26,21 +27,22 @@ use Rattle.refusals.specs.declared.Refusal.{Refusal}
 use Rattle.layout.proofs.Refused.{refused_outcome}
 use Rattle.layout.specs.declared.Table.{Table}
 use Rattle.layout.specs.Tables.{state_of}
-use Rattle.layout.proofs.Sections.{processes}
+use Rattle.layout.proofs.Sections.{processes, lawful}
 use Rattle.tops.specs.Tops.{Counted, Over}
-use Rattle.lowering.specs.Lowering.{Lowered, NoneAlways, NoneLate}
-use Rattle.lowering.proofs.Cuts.{always_lowered, none_clean, over_line}
+use Rattle.lowering.specs.Lowering.{Lowered, NoneAstray, NoneLate}
+use Rattle.lowering.proofs.Cuts.{astray_lowered, none_clean, over_line}
 
 -- ---- positions
 
 pub line_positions : (t : Table) (mask : ℕ) {P Q R S : List ℕ} → Over mask (state_of t) P
-    → Lowered (state_of t) P Q → NoneAlways (state_of t) Q t.n → Counted (state_of t) R S → Lowered (state_of t) Q R → NoneLate (state_of t) R S t.n
+    → Lowered (state_of t) P Q → NoneAstray (state_of t) Q 0 t.n t.n → Counted (state_of t) R S → Lowered (state_of t) Q R → NoneLate (state_of t) R S t.n
     → (p : ℕ) → p < t.n → get_or R p 0 ≡ get_or (failure_line mask (state_of t)) p 0
-line_positions t mask {P} {Q} {R} {S} O a none C d late-none p lt =
+line_positions t mask {P} {Q} {R} {S} O a astray-none C d late-none p lt =
     let s = state_of t in
     let m = processes t in
     let few = t.laid.3 in
-    let clean = none_clean s R S C (omega arith) (always_lowered s Q R d (rw m none)) (rw m late-none) in
+    let legal : (q : ℕ) → Legal (length s) t.e q (history s q) = (λ q. rw m (lawful t q)) in
+    let clean = none_clean s R S C (omega arith) t.e legal (astray_lowered s Q R 0 (length s) d (rw m astray-none)) (rw m late-none) in
     over_line mask s R (d.over mask (a.over mask O)) clean p (omega arith)
 
 -- ---- the mask

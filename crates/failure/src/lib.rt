@@ -7,10 +7,12 @@ ghost use Rattle.xdr.specs.Words.{word, put_word, put_each};
 ghost use Rattle.rules.specs.Records.{history};
 ghost use Rattle.rules.specs.Lines.{goes_back, back_mask};
 ghost use Rattle.rules.specs.FailureLine.{failure_line};
-ghost use Rattle.rules.specs.Calls.{outcome, first, table_rows, failure_rows, failed_on};
+ghost use Rattle.rules.specs.Calls.{outcome, first, table_rows, failed_on};
 ghost use Rattle.refusals.specs.Refusals.{returned};
 ghost use Rattle.layout.specs.Tables.{state_of};
-ghost use Rattle.cuts.specs.Parts.{positions};
+ghost use Rattle.cuts.specs.Parts.{positions, counts};
+ghost use Rattle.tops.specs.Tops.{Counted};
+ghost use Rattle.failure.specs.Asked.{mask_rows};
 
 use cuts::Part;
 use layout::Table;
@@ -18,11 +20,11 @@ use refusals::Refusal;
 
 // The failure line; the first n of the sixteen parts count.
 #[tactic(auto, using(crate::proofs::FailureLine::line_positions))]
-fn line(table: &Table, mask: u32) -> [Part; 16]
-    ensures { (p : ℕ) → p < table.now.n → get_or (positions result) p 0 ≡ get_or (failure_line mask (state_of table.now)) p 0 }
+pub fn line(table: &Table, mask: u32) -> [Part; 16]
+    ensures line { (p : ℕ) → p < table.now.n → get_or (positions result) p 0 ≡ get_or (failure_line mask (state_of table.now)) p 0 }
+    ensures counted { Counted (state_of table.now) (positions result) (counts result) }
 {
-    let start = tops::tops(table, mask);
-    lowering::settled(table, lowering::pruned(table, start))
+    lowering::settled(table, lowering::pruned(table, tops::tops(table, mask)))
 }
 
 // Whether process p goes back, at this position; `down` tells whether it failed.
@@ -69,13 +71,20 @@ fn answer(area: &mut [u8], n: usize, line: &[Part; 16], mask: u32)
     xdr::put(area, n + 1, mask.count_ones());
 }
 
-// The table, where the call meets no row.
-fn asked<'a>(table: &'a [u8], len: usize, mask: u32) -> Result<Table<'a>, Refusal>
-    ensures row { returned result ≡ first (table_rows table.now ++ failure_rows (word table.now 0) mask len) }
+// The table, where a call meets no row that takes a mask and answers `each` bytes a process and `more`.
+pub fn asked<'a>(
+    table: &'a [u8],
+    len: usize,
+    each: usize,
+    more: usize,
+    mask: u32,
+) -> Result<Table<'a>, Refusal>
+    requires { (each ≤ 8) × (more ≤ 8) }
+    ensures row { returned result ≡ first (table_rows table.now ++ mask_rows (word table.now 0) mask len (each * word table.now 0 + more)) }
     ensures table { IfOk result (λ t. t.bytes.now ≡ table.now) }
 {
     let table = Table::read(table)?;
-    if len != 4 * table.n + 8 {
+    if len != each * table.n + more {
         return Err(Refusal::BadAreaLength);
     }
     if mask >> table.n != 0 {
@@ -88,7 +97,7 @@ fn asked<'a>(table: &'a [u8], len: usize, mask: u32) -> Result<Table<'a>, Refusa
 pub fn failed(table: &[u8], area: &mut [u8], mask: u32) -> Result<(), Refusal>
     ensures { outcome (returned result) table.now area.new ≡ failed_on table.now area.old mask }
 {
-    let table = asked(table, area.len(), mask)?;
+    let table = asked(table, area.len(), 4, 8, mask)?;
     let line = line(&table, mask);
     answer(area, table.n, &line, back(&table, mask, &line));
     Ok(())

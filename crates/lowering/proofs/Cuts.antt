@@ -1,35 +1,33 @@
 -- A process of a cut is taken back: what that keeps, and when the cut that is left has no orphan. About records alone.
 use mathlib.Core.Path.{◌≡◌, refl, sym, ap, ◌∙◌, subst}
 use mathlib.Core.Logic.{◌≢◌}
-use mathlib.Core.Bool.{Bool, true, false, not}
+use mathlib.Core.Bool.{Bool, true, false, not, ◌&&◌, and-false}
 use mathlib.Core.List.Memᴰ
-use mathlib.Core.List.{List, [], Memᴰ}
-use Prim.Native.Nat.{ℕ, ◌+◌, ◌%◌, ◌≤◌, ◌<◌}
+use mathlib.Core.List.{List, [], ◌∷◌, Memᴰ}
+use Prim.Native.Nat.{ℕ, ◌+◌, ◌%◌, ◌≤◌, ◌<◌, zero-le}
 use native.Mathlib.Nat.{le_refl, le_trans, mod-eq_of_lt}
 use native.Mathlib.Omega.{arith}
 use native.Mathlib.Decide.{dec_lt, ℕ_discrete}
-use lib.ListN.{length, get_or, set, length-set, get_or-eq_default}
+use lib.ListN.{length, get_or, set, length-set}
 use lib.Seq.{get_or-set_same, get_or-set_other}
-use borrow.Author.Tests.{ltb-false, le-ltb, not-false}
+use lib.Dec.{leb, ltb}
+use borrow.Author.Tests.{ltb-false, le-ltb, lt-ltb, le-leb, not-false}
 use Rattle.basics.specs.Sums.{sum_below}
 use Rattle.basics.proofs.Sums.{sum_but}
 use Rattle.rules.specs.Records.{Event, basic, forced, sent, received, History, State, history, sends, has_send}
 use Rattle.rules.specs.Lines.{upto, part, orphan, NoOrphan, failed, permitted, Permitted}
 use Rattle.rules.specs.FailureLine.{any, lowered, each_from, failure_line}
-use Rattle.records.proofs.Histories.{sends_older, destination_older, holds_held, held_holds, holds_older}
+use Rattle.records.proofs.Histories.{each_older, sends_older, destination_older, holds_held, held_holds, holds_older}
 use Rattle.records.proofs.Cuts.{upto_is_older, upto_mono, any_older, any_none, none_any, lowered_le, lowered_permitted, lowered_keeps}
-use Rattle.records.proofs.FailureLines.{each_length, each_at, failure_line_lem}
+use Rattle.records.proofs.FailureLines.{beyond, same_part, same_orphan, each_length, each_at, failure_line_lem}
+use Rattle.tables.proofs.Laid.{Law, Legal}
 use Rattle.cuts.specs.Tests.{late}
-use Rattle.lowering.specs.Lowering.{Lowered, always_orphan, NoneAlways, NoneLate}
+use Rattle.lowering.specs.Lowering.{Lowered, astray, NoneAstray, NoneLate}
 use Rattle.tops.specs.Tops.{Counted, Over}
 
 -- the sum of the first p positions
 abbrev pub total : List ℕ → ℕ → ℕ
 total position = sum_below (λ p. get_or position p 0)
-
--- no process has records but those of the state
-beyond : (s : State) (q : ℕ) → length s ≤ q → history s q ≡ []
-beyond s q le = get_or-eq_default s [] le
 
 -- a process that has sent something is there
 sender : (s : State) (p q k : ℕ) → has_send (history s q) p k ≡ true → q < length s
@@ -41,14 +39,24 @@ sender s p q k e = go (dec_lt q (length s))
         let H = holds_held [] p k (rw (beyond s q (omega arith)) at e) in
         absurd (let a = H.positive in let b = H.counted in omega arith)
 
+third_false : (a b c : Bool) → (a && (b && c)) ≡ false → a ≡ true → b ≡ true → c ≡ false
+third_false a b c e x y = rw (x, y) at e
+
+-- a receipt's sender is there, and its number is positive
+receipt_law : (n E p : ℕ) (h : History) → Legal n E p h → (q k c : ℕ) → Memᴰ (received q k c) h → (q < n) × (0 < k)
+receipt_law n E p [] L q k c m = absurd (Memᴰ.not-nil m)
+receipt_law n E p (e ∷ h) L q k c (Memᴰ.head z) = let l = subst (λ (x : Event). Law n E p x h) (sym z) L.0 in (l.0, l.2)
+receipt_law n E p (e ∷ h) L q k c (Memᴰ.tail m) = receipt_law n E p h L.1 q k c m
+
 -- ---- lowered cuts
 
 pub lowered_trans : (s : State) (P Q R : List ℕ) → Lowered s P Q → Lowered s Q R → Lowered s P R
 lowered_trans s P Q R a b = record { down = λ p lt. le_trans (b.down p lt) (a.down p lt); over = λ mask O. b.over mask (a.over mask O) }
 
 -- a lowered cut has no receipt that the cut did not have
-pub always_lowered : (s : State) (P Q : List ℕ) → Lowered s P Q → NoneAlways s P (length s) → NoneAlways s Q (length s)
-always_lowered s P Q l none q lt = any_older (always_orphan s q) (upto_mono (get_or Q q 0) (get_or P q 0) (history s q) (l.down q lt)) (none q lt)
+pub astray_lowered : (s : State) (P Q : List ℕ) (from next : ℕ) → Lowered s P Q → NoneAstray s P from next (length s) → NoneAstray s Q from next (length s)
+astray_lowered s P Q from next l none q lt =
+    any_older (astray s from next q) (upto_mono (get_or Q q 0) (get_or P q 0) (history s q) (l.down q lt)) (none q lt)
 
 -- ---- one process taken back for a test o
 
@@ -120,14 +128,16 @@ lower_fair s P p wide o fair = record { down = λ q lq. down q lq (ℕ_discrete 
 
 -- ---- the two tests
 
-pub always_fair : (s : State) (P : List ℕ) (p : ℕ) → Fair s P p (always_orphan s p)
-always_fair s P p mask O other A clean = none_any (always_orphan s p) (part s other p) (λ e m. go e (clean p e m))
+pub astray_fair : (s : State) (P : List ℕ) (from next p : ℕ) → Fair s P p (astray s from next p)
+astray_fair s P from next p mask O other A clean = none_any (astray s from next p) (part s other p) (λ e m. go e (clean p e m))
   where
-    go : (e : Event) → orphan s other p e ≡ false → always_orphan s p e ≡ false
+    go : (e : Event) → orphan s other p e ≡ false → astray s from next p e ≡ false
     go (basic m) x = refl
     go (forced m) x = refl
     go (sent q) x = refl
-    go (received q k c) x = rw (holds_older (upto_is_older (get_or other q 0) (history s q)) p k (not-false (has_send (part s other q) p k) x))
+    go (received q k c) x =
+        let sent_to = holds_older (upto_is_older (get_or other q 0) (history s q)) p k (not-false (has_send (part s other q) p k) x) in
+        rw (sent_to, and-false (leb k (sends (history s q))), and-false (leb from q && ltb q next))
 
 module _ (s : State) (P S : List ℕ) (C : Counted s P S) (few : length s ≤ 16) where
   count_of : (q : ℕ) → q < length s → get_or S (q % 16) 0 ≡ sends (part s P q)
@@ -149,29 +159,31 @@ module _ (s : State) (P S : List ℕ) (C : Counted s P S) (few : length s ≤ 16
           let d = count_of q lq in
           le-ltb (get_or S (q % 16) 0) k (omega arith)
 
-  -- a cut in which no receipt is an orphan in every cut, and none is late, has no orphan
-  pub none_clean : NoneAlways s P (length s) → NoneLate s P S (length s) → NoOrphan s P
-  none_clean always-none late-none p e m = at (dec_lt p (length s))
+  -- a cut in which no receipt went astray, and none is late, has no orphan
+  pub none_clean : (E : ℕ) → ((p : ℕ) → Legal (length s) E p (history s p)) → NoneAstray s P 0 (length s) (length s) → NoneLate s P S (length s)
+      → NoOrphan s P
+  none_clean E legal astray-none late-none p e m = at (dec_lt p (length s))
     where
-      go : p < length s → (x : Event) → always_orphan s p x ≡ false → late S x ≡ false → orphan s P p x ≡ false
-      go lt (basic n) a b = refl
-      go lt (forced n) a b = refl
-      go lt (sent q) a b = refl
-      go lt (received q k c) a b =
-          let y = not-false (has_send (history s q) p k) a in
-          let H = holds_held (history s q) p k y in
-          let lq = sender s p q k y in
+      go : p < length s → (x : Event) → Memᴰ x (part s P p) → astray s 0 (length s) p x ≡ false → late S x ≡ false → orphan s P p x ≡ false
+      go lt (basic n) i a b = refl
+      go lt (forced n) i a b = refl
+      go lt (sent q) i a b = refl
+      go lt (received q k c) i a b =
+          let law = receipt_law (length s) E p (part s P p) (each_older (Law (length s) E p) (upto_is_older (get_or P p 0) (history s p)) (legal p)) q k c i in
           let l = ltb-false (get_or S (q % 16) 0) k b in
-          let d = count_of q lq in
+          let d = count_of q law.0 in
           let le : k ≤ sends (part s P q) = omega arith in
-          rw (held_holds (part s P q) p k (record {
-            positive = H.positive;
-            counted = le;
-            to = sym (destination_older (upto_is_older (get_or P q 0) (history s q)) k le) ∙ H.to;
-          }))
+          let o = upto_is_older (get_or P q 0) (history s q) in
+          let there : k ≤ sends (history s q) = le_trans le (sends_older o) in
+          let y = third_false (leb 0 q && ltb q (length s)) (leb k (sends (history s q))) (not (has_send (history s q) p k)) a
+          (rw (le-leb 0 q zero-le, lt-ltb q (length s) law.0)) (le-leb k (sends (history s q)) there)
+          in
+          let H = holds_held (history s q) p k (not-false (has_send (history s q) p k) y) in
+          rw (held_holds (part s P q) p k (record { positive = law.1; counted = le; to = sym (destination_older o k le) ∙ H.to }))
 
       at : Dec (p < length s) → orphan s P p e ≡ false
-      at (yes lt) = go lt e (any_none (always_orphan s p) (part s P p) (always-none p lt) e m) (any_none (late S) (part s P p) (late-none p lt) e m)
+      at (yes lt) =
+          go lt e m (any_none (astray s 0 (length s) p) (part s P p) (astray-none p lt) e m) (any_none (late S) (part s P p) (late-none p lt) e m)
       at (no l) =
           let z : part s P p ≡ [] = ap (upto (get_or P p 0)) (beyond s p (omega arith)) in
           absurd (Memᴰ.not-nil (rw z at m))
@@ -183,7 +195,7 @@ pub over_line : (mask : ℕ) (s : State) (P : List ℕ) → Over mask s P → No
 over_line mask s P O clean p lt =
     let F = failure_line_lem mask s in
     let a = O.latest (failure_line mask s) F.permit F.clean p lt in
-    let b = F.latest cut permit (λ q e m. sym (orphan_same q e) ∙ clean q e (subst (Memᴰ e) (sym (part_cut q)) m)) p lt in
+    let b = F.latest cut permit (λ q e m. same_orphan s cut P cut_at q e ∙ clean q e (subst (Memᴰ e) (same_part s cut P cut_at q) m)) p lt in
     let c = cut_at p lt in
     omega arith
   where
@@ -196,16 +208,3 @@ over_line mask s P O clean p lt =
 
     permit : Permitted mask s cut
     permit = record { size = each_length (λ q h. get_or P q 0) s 0; each = λ q lq. rw (cut_at q lq) (O.permit q lq) }
-
-    part_cut : (q : ℕ) → part s P q ≡ part s cut q
-    part_cut q = go (dec_lt q (length s))
-      where
-        go : Dec (q < length s) → part s P q ≡ part s cut q
-        go (yes l) = ap (λ (x : ℕ). upto x (history s q)) (sym (cut_at q l))
-        go (no l) = rw (beyond s q (omega arith))
-
-    orphan_same : (q : ℕ) (e : Event) → orphan s P q e ≡ orphan s cut q e
-    orphan_same q (basic m) = refl
-    orphan_same q (forced m) = refl
-    orphan_same q (sent d) = refl
-    orphan_same q (received d k c) = ap (λ (h : History). not (has_send h q k)) (part_cut d)

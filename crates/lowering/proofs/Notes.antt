@@ -1,70 +1,40 @@
--- What is noted of sends, and that it finds the receipts that are orphans in every cut.
+-- The test by what is noted finds the receipts that went astray.
 use mathlib.Core.Path.{◌≡◌, refl, ap, ◌∙◌}
-use mathlib.Core.Logic.{inl, inr}
-use mathlib.Core.Bool.{Bool, true, false, not, cond, ◌&&◌}
+use mathlib.Core.Bool.{Bool, false, not, ◌&&◌}
 use mathlib.Core.List.{List, [], ◌∷◌}
-use Prim.Native.Nat.{ℕ, ◌+◌, ◌*◌, ◌≤◌, ◌<◌}
-use native.Mathlib.Nat.{mul-le-mul_right}
+use Prim.Native.Nat.{ℕ, ◌+◌, ◌≤◌, ◌<◌, ◌%◌, zero-le}
+use native.Mathlib.Nat.{mod-eq_of_lt}
 use native.Mathlib.Omega.{arith}
-use native.Mathlib.Decide.{ℕ_discrete}
-use lib.Dec.{ltb, leb, eqb}
+use native.Mathlib.Decide.{dec_lt}
+use lib.Dec.{ltb, leb}
 use lib.ListN.{length, get_or, set}
-use borrow.Author.Tests.{lt-ltb, leb-true, leb-false, ne_eqb}
+use borrow.Author.Tests.{lt-ltb, le-ltb, le-leb, lt-leb, leb-true}
+use Rattle.std.proofs.Math.ListN.{get_or-map}
 use Rattle.rules.specs.Records.{Event, basic, forced, sent, received, History, State, history, sends, destination, has_send}
-use Rattle.rules.specs.Lines.{upto}
+use Rattle.rules.specs.Lines.{upto, part}
 use Rattle.rules.specs.FailureLine.{any, before, lowered}
 use Rattle.basics.proofs.Booleans.{Test, passes, fails, test}
+use Rattle.basics.proofs.Older.{same}
+use Rattle.records.proofs.NumberedLines.{upto_older}
 use Rattle.records.proofs.Histories.{Each, each_older}
 use Rattle.records.proofs.Cuts.{upto_is_older}
-use Rattle.tables.proofs.Laid.{Law, Legal}
+use Rattle.tables.proofs.Laid.{Law}
 use Rattle.events.specs.declared.Records.{Records}
 use Rattle.events.specs.Events.{held}
 use Rattle.layout.specs.declared.Table.{Table}
 use Rattle.layout.specs.Tables.{state_of}
-use Rattle.layout.proofs.Sections.{lawful, section}
+use Rattle.layout.proofs.Sections.{lawful}
 use Rattle.cuts.specs.declared.Part.{Part}
+use Rattle.cuts.specs.declared.Span.{Span}
 use Rattle.cuts.specs.Parts.{positions, counts, part_at}
-use Rattle.cuts.specs.Tests.{note_index, unsent}
-use Rattle.cuts.specs.Notes.{noted}
-use Rattle.cuts.proofs.Scanned.{held_length}
-use Rattle.cuts.proofs.Notes.{noted_length, noted_other, noted_sent, noted_blank}
+use Rattle.cuts.specs.Notes.{span_of, place_in}
+use Rattle.cuts.specs.Tests.{other_noted, noted_astray}
+use Rattle.notes.specs.declared.Senders.{Senders}
+use Rattle.notes.specs.Noted.{NotedAt}
 use Rattle.tops.specs.Tops.{Counted}
-use Rattle.lowering.specs.Lowering.{always_orphan, goes, Noted, Blank}
-use Rattle.lowering.proofs.Cuts.{always_fair}
+use Rattle.lowering.specs.Lowering.{ends, astray}
+use Rattle.lowering.proofs.Cuts.{astray_fair}
 use Rattle.lowering.proofs.Steps.{Step, lowered_step}
-
--- each place of q has where that send goes
-noted_at : (E q : ℕ) (to : List ℕ) (n p : ℕ) → n ≤ 16 → q * E + E < length to → Blank to (q * E) → (h : History) → Legal n E p h → length h ≤ E
-    → (k : ℕ) → 0 < k → k ≤ E
-    → get_or (noted (q * E) h to) (q * E + k) 0 ≡ goes h k
-noted_at E q to n p few room blank h legal short k pos le = go (test (leb k (sends h)))
-  where
-    go : Test (leb k (sends h)) → get_or (noted (q * E) h to) (q * E + k) 0 ≡ cond (leb k (sends h)) (destination h k) 16
-    go (passes x) = rw x (noted_sent (q * E) to n E p few h legal (omega arith) k pos (leb-true k (sends h) x))
-    go (fails x) = rw x (noted_blank (q * E) to blank h (omega arith) k (leb-false k (sends h) x) (omega arith))
-
--- one process more
-noted_next : (s : State) (n E p : ℕ) (to : List ℕ) → n ≤ 16 → p * E + E < length to → Noted s E to p → Blank to (p * E)
-    → Legal n E p (history s p) → length (history s p) ≤ E → {u : List ℕ} → u ≡ noted (p * E) (history s p) to
-    → (length u ≡ length to) × Noted s E u (p + 1) × Blank u ((p + 1) * E)
-noted_next s n E p to few room N B legal short {u} e = rw e (
-  noted_length (p * E) to h,
-  λ q k lt pos le. at q k lt pos le (ℕ_discrete q p),
-  λ i a b.
-      let m = noted_length (p * E) to h in
-      noted_other (p * E) to h i (inr (omega arith)) ∙ B i (omega arith) (omega arith),
-)
-  where
-    h : History
-    h = history s p
-
-    at : (q k : ℕ) → q < p + 1 → 0 < k → k ≤ E → Dec (q ≡ p) → get_or (noted (p * E) h to) (q * E + k) 0 ≡ goes (history s q) k
-    at q k lt pos le (yes z) = rw z (noted_at E p to n p few room B h legal short k pos le)
-    at q k lt pos le (no ne) =
-        let m = mul-le-mul_right {m = q + 1} {n = p} E (omega arith) in
-        noted_other (p * E) to h (q * E + k) (inl (omega arith)) ∙ N q k (omega arith) pos le
-
--- ---- the test by what is noted is the test for receipts that are orphans in every cut
 
 before_same : (o o' : Event → Bool) (P : Event → History → Type 0) → ((e : Event) (h : History) → P e h → o e ≡ o' e) → (h : History)
     → Each P h → (any o h ≡ any o' h) × (before o h ≡ before o' h)
@@ -74,58 +44,68 @@ before_same o o' P f (e ∷ h) r =
     let a = f e h r.0 in
     (rw (a, b.0), rw (a, b.0, b.1))
 
-always_same : (s : State) (n E p : ℕ) (to : List ℕ) → p < 16 → n * E < length to → Noted s E to n → (h : History) → Legal n E p h → (x : ℕ)
-    → lowered (unsent E p to) h x ≡ lowered (always_orphan s p) h x
-always_same s n E p to lp room N h legal x =
-    let b = before_same (unsent E p to) (always_orphan s p) (Law n E p) same (upto x h) (each_older (Law n E p) (upto_is_older x h) legal) in
-    rw (b.0, b.1)
-  where
-    same : (e : Event) (g : History) → Law n E p e g → unsent E p to e ≡ always_orphan s p e
-    same (basic m) g a = refl
-    same (forced m) g a = refl
-    same (sent d) g a = refl
-    same (received q k c) g (lq, ne, pos, le, most) =
-        let m = mul-le-mul_right {m = q + 1} {n = n} E (omega arith) in
-        let i : note_index E (length to) q k ≡ q * E + k = rw (lt-ltb (q * E + k) (length to) (omega arith)) in
-        let z : eqb (get_or to (note_index E (length to) q k) 0) p ≡ has_send f p k =
-        rw (i, N q k lq pos le, lt-ltb 0 k pos) (go (leb k (sends f)) (destination f k))
-        in
-        ap not z
+-- where all records have happened, a process's part is all it has
+pub part_all : (t : Table) (q : ℕ) → part (state_of t) (ends t) q ≡ history (state_of t) q
+part_all t q = let s = state_of t in
+    ap (λ (i : ℕ). upto i (history s q)) (get_or-map length s q []) ∙ upto_older same
+
+module _ (t : Table) (g : Senders) (to : List ℕ) (N : NotedAt t (ends t) 0 g to) (p : ℕ) where
+  abbrev s : State
+  s = state_of t
+
+  module _ (q k : ℕ) (pos : 0 < k) where
+    abbrev h : History
+    h = history s q
+
+    abbrev span : Span
+    span = span_of g.spans q
+
+    -- its sends are noted, or none
+    of_noted : g.from ≤ q → q < g.next → other_noted p to (place_in span k) ≡ (leb k (sends h) && not (has_send h p k))
+    of_noted a b = go (test (leb k (sends h)))
       where
-        f : History
-        f = history s q
+        count : span.count ≡ sends h
+        count = N.group.count q a b ∙ ap sends (part_all t q)
 
-        go : (b : Bool) (d : ℕ) → eqb (cond b d 16) p ≡ (b && eqb d p)
-        go true d = refl
-        go false d = ne_eqb 16 p (λ z. absurd (omega arith))
+        note : k ≤ sends h → get_or to (span.start + k) 0 ≡ destination h k
+        note le =
+            N.notes q k a b pos (rw (part_all t q) le) ∙ rw (le-ltb (destination (part s (ends t) q) k) 0 zero-le)
+            (ap (λ (x : History). destination x k) (part_all t q))
 
--- ---- a table
+        go : Test (leb k (sends h)) → other_noted p to (place_in span k) ≡ (leb k (sends h) && not (has_send h p k))
+        go (fails x) = rw (count, x) refl
+        go (passes x) = rw (count, x, note (leb-true k (sends h) x), lt-ltb 0 k pos) refl
 
-module _ (t : Table) (p : ℕ) (lt : p < t.n) (r : Records) (is : held r ≡ history (state_of t) p) where
-  -- there is room for all that process p may send
-  pub note_room : {len : ℕ} → t.n * t.e < len → p * t.e + r.count < len
-  note_room room =
-      let H = section t p lt refl in
-      let m = mul-le-mul_right {m = p + 1} {n = t.n} t.e (omega arith) in
-      omega (arith, H.short, H.count, held_length r, ap length is)
+    of_none : span.count ≡ 0 → other_noted p to (place_in span k) ≡ false
+    of_none z = rw (z, lt-leb k 0 pos) refl
 
-  pub note_turn : (to : List ℕ) → t.n * t.e < length to → Noted (state_of t) t.e to p → Blank to (p * t.e)
-      → {u : List ℕ} → u ≡ noted (p * t.e) (held r) to
-      → (length u ≡ length to) × Noted (state_of t) t.e u (p + 1) × Blank u ((p + 1) * t.e)
-  note_turn to room N B e =
-      let H = section t p lt refl in
-      let d = H.count in
-      let f = H.short in
-      let m = mul-le-mul_right {m = p + 1} {n = t.n} t.e (omega arith) in
-      noted_next (state_of t) t.n t.e p to t.laid.3 (omega arith) N B (lawful t p) (omega arith) (e ∙ ap (λ (h : History). noted (p * t.e) h to) is)
+    of_any : other_noted p to (place_in span k) ≡ (leb g.from q && ltb q g.next && (leb k (sends h) && not (has_send h p k)))
+    of_any = go (dec_lt q g.from) (dec_lt q g.next)
+      where
+        go : Dec (q < g.from) → Dec (q < g.next)
+            → other_noted p to (place_in span k) ≡ (leb g.from q && ltb q g.next && (leb k (sends h) && not (has_send h p k)))
+        go (yes l) x = rw (lt-leb g.from q l) (of_none (N.group.before q l).1)
+        go (no l) (yes x) = rw (le-leb g.from q (omega arith), lt-ltb q g.next x) (of_noted (omega arith) x)
+        go (no l) (no x) = rw (le-leb g.from q (omega arith), le-ltb q g.next (omega arith)) (of_none (N.group.behind q (omega arith)).1)
 
-  -- what the scan finds is the first receipt that is an orphan in every cut
-  pub always_step : (cut : List Part) → Counted (state_of t) (positions cut) (counts cut) → (to : List ℕ) → t.n * t.e < length to
-      → Noted (state_of t) t.e to t.n → (x : Part)
-      → (x.position ≡ lowered (unsent t.e p to) (held r) (part_at cut p).position) × (x.sends ≡ sends (upto x.position (held r)))
-      → Step (state_of t) (positions cut) (counts cut) (positions (set cut p x)) (counts (set cut p x)) t.n p (always_orphan (state_of t) p)
+  test_same : (e : Event) (h : History) → Law t.n t.e p e h → noted_astray g.spans p to e ≡ astray s g.from g.next p e
+  test_same (basic m) h law = refl
+  test_same (forced m) h law = refl
+  test_same (sent q) h law = refl
+  test_same (received q k x) h law =
+      let few = t.laid.3 in
+      let l = law.0 in
+      let small : q % 16 ≡ q = mod-eq_of_lt (omega arith) in
+      rw small (of_any q k law.2)
+
+  -- what the scan finds is the first receipt that went astray
+  pub astray_step : (cut : List Part) → Counted s (positions cut) (counts cut) → p < t.n → (r : Records) → held r ≡ history s p → (x : Part)
+      → (x.position ≡ lowered (noted_astray g.spans p to) (held r) (part_at cut p).position) × (x.sends ≡ sends (upto x.position (held r)))
+      → Step s (positions cut) (counts cut) (positions (set cut p x)) (counts (set cut p x)) t.n p (astray s g.from g.next p)
       (ltb x.position (part_at cut p).position)
-  always_step cut C to room N x (a, b) =
-      let m = t.laid.3 in
-      let same = always_same (state_of t) t.n t.e p to (omega arith) room N (held r) (rw is (lawful t p)) (part_at cut p).position in
-      lowered_step t cut C p lt r is (always_orphan (state_of t) p) (always_fair (state_of t) (positions cut) p) x (a ∙ same, b)
+  astray_step cut C lt r is x (a, b) =
+      let i = (part_at cut p).position in
+      let legal = each_older (Law t.n t.e p) (upto_is_older i (history s p)) (lawful t p) in
+      let B = before_same (noted_astray g.spans p to) (astray s g.from g.next p) (Law t.n t.e p) test_same (upto i (history s p)) legal in
+      let found : lowered (noted_astray g.spans p to) (held r) i ≡ lowered (astray s g.from g.next p) (held r) i = rw is (rw (B.0, B.1) refl) in
+      lowered_step t cut C p lt r is (astray s g.from g.next p) (astray_fair s (positions cut) g.from g.next p) x (a ∙ found, b)

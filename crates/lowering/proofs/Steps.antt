@@ -1,20 +1,21 @@
 -- One turn of the loops that lower a cut: the cut after a process is taken back.
-use mathlib.Core.Path.{◌≡◌, sym, ap, ◌∙◌, subst}
+use mathlib.Core.Path.{◌≡◌, refl, sym, ap, ◌∙◌, subst}
 use mathlib.Core.Logic.{◌≢◌, ◌⊎◌, inl, inr, ⊎_elim}
-use mathlib.Core.Bool.{Bool, true, false, cond}
+use mathlib.Core.Bool.{Bool, true, false, not, cond, ◌&&◌, and-false}
 use mathlib.Core.List.{List}
-use Prim.Native.Nat.{ℕ, ◌+◌, ◌-◌, ◌*◌, ◌≤◌, ◌<◌}
+use Prim.Native.Nat.{ℕ, ◌+◌, ◌-◌, ◌*◌, ◌≤◌, ◌<◌, zero-le}
+use native.Mathlib.Nat.{le_refl}
 use native.Mathlib.Omega.{arith}
 use native.Mathlib.Decide.{dec_lt, ℕ_discrete}
-use lib.Dec.{ltb}
+use lib.Dec.{ltb, leb}
 use lib.ListN.{length, get_or, set}
 use lib.Seq.{set-get_or}
-use borrow.Author.Tests.{ltb-true, ltb-false}
-use Rattle.rules.specs.Records.{Event, History, State, history, sends}
+use borrow.Author.Tests.{ltb-true, ltb-false, lt-ltb, le-ltb, le-leb, leb-false}
+use Rattle.rules.specs.Records.{Event, basic, forced, sent, received, History, State, history, sends, has_send}
 use Rattle.rules.specs.Lines.{upto, part}
 use Rattle.rules.specs.FailureLine.{any, lowered}
 use Rattle.basics.proofs.Booleans.{Test, passes, fails, test}
-use Rattle.records.proofs.Cuts.{lowered_le, lowered_none}
+use Rattle.records.proofs.Cuts.{lowered_le, lowered_none, any_none, none_any}
 use Rattle.events.specs.declared.Records.{Records}
 use Rattle.events.specs.Events.{held}
 use Rattle.layout.specs.declared.Table.{Table}
@@ -25,8 +26,8 @@ use Rattle.cuts.specs.Parts.{positions, counts, part_at}
 use Rattle.cuts.specs.Tests.{late}
 use Rattle.cuts.proofs.Parts.{position_at, sends_at, positions_set, counts_set}
 use Rattle.tops.specs.Tops.{Counted}
-use Rattle.lowering.specs.Lowering.{Lowered, always_orphan, Pruned}
-use Rattle.lowering.proofs.Cuts.{total, lowered_trans, part_same, part_other, set_counted, set_total, Fair, lower_fair, late_fair}
+use Rattle.lowering.specs.Lowering.{Lowered, astray, NoneAstray, Pruned}
+use Rattle.lowering.proofs.Cuts.{total, lowered_trans, astray_lowered, part_same, part_other, set_counted, set_total, Fair, lower_fair, late_fair}
 use Rattle.cuts.proofs.Scanned.{held_length}
 
 -- ---- one process taken back
@@ -178,11 +179,52 @@ late_step t cut {p} Q lt r is x e =
 
 -- ---- pruning
 
-pub pruned_next : (s : State) (P₀ P S P' S' : List ℕ) (n p : ℕ) {moves : Bool} → Pruned s P₀ P S p
-    → Step s P S P' S' n p (always_orphan s p) moves → Pruned s P₀ P' S' (p + 1)
-pruned_next s P₀ P S P' S' n p (C, l, none) u =
+pub pruned_next : (s : State) (P₀ P S P' S' : List ℕ) (a b p : ℕ) {n : ℕ} {moves : Bool} → Pruned s P₀ P S a b p
+    → Step s P S P' S' n p (astray s a b p) moves → Pruned s P₀ P' S' a b (p + 1)
+pruned_next s P₀ P S P' S' a b p (C, l, none) u =
     (u.counted, lowered_trans s P₀ P P' l u.lowers, λ q lt. at q lt (ℕ_discrete q p))
   where
-    at : (q : ℕ) → q < p + 1 → Dec (q ≡ p) → any (always_orphan s q) (part s P' q) ≡ false
+    at : (q : ℕ) → q < p + 1 → Dec (q ≡ p) → any (astray s a b q) (part s P' q) ≡ false
     at q lt (yes i) = rw i u.none
-    at q lt (no ne) = ap (any (always_orphan s q)) (u.others q ne) ∙ none q (omega arith)
+    at q lt (no ne) = ap (any (astray s a b q)) (u.others q ne) ∙ none q (omega arith)
+
+-- of nobody's receipts yet
+pub pruned_start : (s : State) (P S : List ℕ) (n : ℕ) → Counted s P S → Pruned s P P S 0 0 n
+pruned_start s P S n C = (
+  C,
+  record { down = λ p lt. le_refl (get_or P p 0); over = λ mask O. O },
+  λ p lt. none_any (astray s 0 0 p) (part s P p) (λ e m. none p e),
+)
+  where
+    none : (p : ℕ) (e : Event) → astray s 0 0 p e ≡ false
+    none p (basic m) = refl
+    none p (forced m) = refl
+    none p (sent q) = refl
+    none p (received q k c) = rw (le-ltb q 0 zero-le, and-false (leb 0 q))
+
+-- of those from the senders before a, and then from the others before b
+module _ (s : State) (P₀ P S P' S' : List ℕ) (a b : ℕ) where
+  one : (p : ℕ) (e : Event) → astray s 0 a p e ≡ false → astray s a b p e ≡ false → astray s 0 b p e ≡ false
+  one p (basic m) x y = refl
+  one p (forced m) x y = refl
+  one p (sent q) x y = refl
+  one p (received q k c) x y = go (test (leb a q))
+    where
+      at : Bool
+      at = leb k (sends (history s q)) && not (has_send (history s q) p k)
+
+      go : Test (leb a q) → (leb 0 q && ltb q b && at) ≡ false
+      go (passes z) = rw (le-leb 0 q zero-le) (rw z at y)
+      go (fails z) =
+          let w : at ≡ false = rw (le-leb 0 q zero-le, lt-ltb q a (leb-false a q z)) at x in
+          rw (w, and-false (leb 0 q && ltb q b))
+
+  pub pruned_more : (n : ℕ) → n ≡ length s → Pruned s P₀ P S 0 a n → Pruned s P P' S' a b n → Pruned s P₀ P' S' 0 b n
+  pruned_more n e (C, l, none) (C', l', none') = (C', lowered_trans s P₀ P P' l l', both)
+    where
+      before : NoneAstray s P' 0 a n
+      before = rw e (astray_lowered s P P' 0 a l' (rw e at none))
+
+      both : NoneAstray s P' 0 b n
+      both p lt = none_any (astray s 0 b p) (part s P' p)
+          (λ x m. one p x (any_none (astray s 0 a p) (part s P' p) (before p lt) x m) (any_none (astray s a b p) (part s P' p) (none' p lt) x m))

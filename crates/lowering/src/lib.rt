@@ -1,8 +1,8 @@
 // A cut that is lowered to the failure line (document 01, "Lines").
 //
-// Every process starts at its latest permitted position. A receipt whose send is not in the table, or goes to another process, is an
-// orphan in every cut: one pass takes each process back to before its first one. After that send k of process q is in the cut exactly
-// when q's part has at least k sends, so that a scan for late receipts compares numbers and searches nothing.
+// Every process starts at its latest permitted position. A receipt that went astray, whose number is that of a send to another process, is
+// an orphan in every cut: each process is taken back to before its first one. After that a receipt is an orphan exactly when it is late, its
+// number above the count of sends in its sender's part, so that a scan for late receipts compares numbers and searches nothing.
 #![tactic(auto)]
 
 ghost use Rattle.std.specs.Prelude.{◌≡◌, cond, ◌+◌, ◌*◌, ◌≤◌, ◌<◌, ltb, length};
@@ -13,11 +13,13 @@ ghost use Rattle.events.specs.Events.{held};
 ghost use Rattle.layout.specs.Tables.{state_of};
 ghost use Rattle.cuts.specs.Parts.{positions, counts};
 ghost use Rattle.tops.specs.Tops.{Counted};
-ghost use Rattle.lowering.specs.Lowering.{Pruned, Settled, Noted};
+ghost use Rattle.notes.specs.Noted.{none_from, NotedAt};
+ghost use Rattle.lowering.specs.Lowering.{ends, Pruned, Settled};
 
-use cuts::{Late, Part, Unsent};
+use cuts::{Astray, Late, Part};
 use events::{Records, Test};
 use layout::Table;
+use notes::Senders;
 
 // ---- one process
 
@@ -35,58 +37,78 @@ fn lower<T: Test>(records: &Records, part: Part, test: &T) -> Part
 }
 
 // `Counted` is a clause of each function below that takes a cut: a struct of table and parts would have each say in its place that the cut
-// it returns is of the same table. Room for all notes is a clause too: it is about the table and its caller's notes.
+// it returns is of the same table. Room for the notes of any one process is a clause too: it is about the table and its caller's notes.
 
-// ---- receipts that are orphans in every cut
+// ---- receipts that went astray
 
-// Notes where all sends go, 16 where there is none.
-#[tactic(auto, using(crate::proofs::Notes::note_room))]
-fn note_all(table: &Table, to: &mut [u8])
-    requires { table.now.n * table.now.e < length to.old }
-    ensures { (length to.new ≡ length to.old) × Noted (state_of table.now) table.now.e to.new table.now.n }
+// Notes where the sends go, of as many processes from the first one on as there is room for.
+fn note_sends(table: &Table, senders: &mut Senders, to: &mut [u8])
+    requires { (senders.old ≡ none_from senders.old.next) × (senders.old.next < table.now.n) × (table.now.e < length to.old) × (length to.old ≤ 65536) }
+    ensures { NotedAt table.now (ends table.now) 0 senders.new to.new × (length to.new ≡ length to.old) × (senders.new.from ≡ senders.old.next) × (senders.old.next < senders.new.next) }
 {
-    to.fill(16);
-    for p in 0..table.n {
-        cuts::note(&table.records(p), p * table.e, to);
+    for p in senders.next..table.n {
+        if !senders.note(&table.records(p), to) {
+            break;
+        }
     }
 }
 
-// Every process before its first receipt that is an orphan in every cut.
-fn prune(table: &Table, cut: [Part; 16], to: &[u8]) -> [Part; 16]
-    requires { (table.now.n * table.now.e < length to.now) × Noted (state_of table.now) table.now.e to.now table.now.n × Counted (state_of table.now) (positions cut) (counts cut) }
-    ensures { Pruned (state_of table.now) (positions cut) (positions result) (counts result) table.now.n }
+// Every process before its first receipt that went astray, from one of the senders that are noted.
+fn pruned_of(table: &Table, senders: &Senders, to: &[u8], cut: [Part; 16]) -> [Part; 16]
+    requires { NotedAt table.now (ends table.now) 0 senders.now to.now × Counted (state_of table.now) (positions cut) (counts cut) }
+    ensures { Pruned (state_of table.now) (positions cut) (positions result) (counts result) senders.now.from senders.now.next table.now.n }
 {
     let mut lowered = cut;
     for p in 0..table.n {
-        let unsent = Unsent {
-            e: table.e,
+        let astray = Astray {
+            spans: &senders.spans,
             p: p as u8,
             to,
         };
-        lowered[p] = lower(&table.records(p), lowered[p], &unsent);
+        lowered[p] = lower(&table.records(p), lowered[p], &astray);
     }
     lowered
 }
 
-// Every process before its first such receipt, by notes in a room of N bytes.
-fn pruned_within<const N: usize>(table: &Table, cut: [Part; 16]) -> [Part; 16]
-    requires { (table.now.n * table.now.e < N) × (N ≤ 16385) × Counted (state_of table.now) (positions cut) (counts cut) }
-    ensures { Pruned (state_of table.now) (positions cut) (positions result) (counts result) table.now.n }
+// Every process before its first such receipt, from the senders from q on that there is room for; and the next sender.
+#[inline(always)]
+fn pruned_from(table: &Table, q: usize, to: &mut [u8], cut: [Part; 16]) -> ([Part; 16], usize)
+    requires { (q < table.now.n) × (table.now.e < length to.old) × (length to.old ≤ 65536) × Counted (state_of table.now) (positions cut) (counts cut) }
+    ensures { Pruned (state_of table.now) (positions cut) (positions result.0) (counts result.0) q result.1 table.now.n × (length to.new ≡ length to.old) × (q < result.1) × (result.1 ≤ table.now.n) }
 {
-    let mut to = [0u8; N];
-    note_all(table, &mut to);
-    prune(table, cut, &to)
+    let mut senders = Senders::none(q);
+    note_sends(table, &mut senders, to);
+    (pruned_of(table, &senders, to, cut), senders.next)
 }
 
-// Every process before its first such receipt. A small table does not pay for the room that the largest needs.
+// Every process before its first such receipt, with room for N notes, in a frame of its own.
+#[inline(never)]
+fn pruned_within<const N: usize>(table: &Table, cut: [Part; 16]) -> [Part; 16]
+    requires { (table.now.e < N) × (N ≤ 65536) × Counted (state_of table.now) (positions cut) (counts cut) }
+    ensures { Pruned (state_of table.now) (positions cut) (positions result) (counts result) 0 table.now.n table.now.n }
+{
+    let mut to = [0; N];
+    let mut lowered = cut;
+    let mut next = 0;
+    // By while: how many senders there is room for shows as they are noted.
+    while next < table.n {
+        let (pruned, then) = pruned_from(table, next, &mut to, lowered);
+        lowered = pruned;
+        next = then;
+    }
+    lowered
+}
+
+// Every process before its first such receipt. A small table does not pay for the room that the largest needs: 2,944 notes, as many as leave
+// the calls less than 4 KiB of stack.
 pub fn pruned(table: &Table, cut: [Part; 16]) -> [Part; 16]
     requires { Counted (state_of table.now) (positions cut) (counts cut) }
-    ensures { Pruned (state_of table.now) (positions cut) (positions result) (counts result) table.now.n }
+    ensures { Pruned (state_of table.now) (positions cut) (positions result) (counts result) 0 table.now.n table.now.n }
 {
     if table.n * table.e < 256 {
         return pruned_within::<256>(table, cut);
     }
-    pruned_within::<16385>(table, cut)
+    pruned_within::<2945>(table, cut)
 }
 
 // ---- late receipts

@@ -11,17 +11,23 @@ use native.Mathlib.Decide.{dec_lt, ℕ_discrete}
 use lib.Dec.{ltb, eqb}
 use lib.ListN.{length, get_or, length-set}
 use lib.Seq.{get_or-set_other, get_or-set_same}
-use borrow.Author.Tests.{ne_eqb, lt-ltb, le-ltb, eq-eqb}
-use Rattle.xdr.specs.Words.{word}
-use Rattle.rules.specs.Records.{History, State, sends, destination, has_receipt}
+use borrow.Author.Tests.{ne_eqb, lt-ltb, le-ltb, eq-eqb, true-ltb, false-ltb}
+use Rattle.rules.specs.Records.{History, State, history, sends, destination, has_receipt}
 use Rattle.rules.specs.Lines.{part}
 use Rattle.tables.proofs.Laid.{Legal, sends_length}
+use Rattle.basics.proofs.Older.{older_length}
+use Rattle.records.proofs.Cuts.{upto_is_older}
+use Rattle.events.specs.declared.Records.{Records}
+use Rattle.events.specs.Events.{held}
+use Rattle.cuts.proofs.Scanned.{held_length}
 use Rattle.cuts.specs.Notes.{span_of, Inside, noted, struck}
 use Rattle.cuts.proofs.Notes.{struck_at, struck_length, noted_sent, noted_other, noted_length}
 use Rattle.notes.specs.declared.cut.Cut.{Cut}
 use Rattle.notes.specs.declared.Senders.{Senders}
-use Rattle.notes.specs.Noted.{state_at, places, sent_below, grown, Group, left, Left, Noted}
-use Rattle.notes.proofs.Places.{part_legal, part_length}
+use Rattle.layout.specs.declared.Table.{Table}
+use Rattle.layout.specs.Tables.{state_of}
+use Rattle.notes.specs.Noted.{state_at, places, sent_below, grown, Group, left, Left, NotedAt, Noted}
+use Rattle.notes.proofs.Places.{short, part_legal, legal_part}
 
 module _ (s : State) (cut : List ℕ) where
   sent_mono : (q x : ℕ) → sent_below s cut q ≤ sent_below s cut (q + x)
@@ -164,36 +170,59 @@ module _ (s : State) (cut : List ℕ) where
         (λ r j l x y z. group_only q k a b c d r j x y z) (part s cut p) legal
         ∙ ap (λ (x : ℕ). cond (eqb x p && has_receipt (part s cut p) q k) 16 x) (L q k a b c d) ∙ left_next p q k (omega arith)
 
--- ---- at a cut
+-- ---- at a cut of a table
 
-module _ (c : Cut) (g : Senders) (to : List ℕ) where
+module _ (t : Table) (cut : List ℕ) (g : Senders) (to : List ℕ) (N : NotedAt t cut 0 g to) {p : ℕ} (at : g.next ≡ p) (lt : p < t.n)
+    (r : Records) (is : held r ≡ part (state_of t) cut p) where
+  here : held r ≡ part (state_of t) cut g.next
+  here = is ∙ ap (part (state_of t) cut) (sym at)
+
   -- one sender more is noted
-  pub note_turn : Noted c 0 g to → {p : ℕ} → g.next ≡ p → p < c.table.n → g.many + word c.positions.now p < length to
-      → {h : History} → h ≡ part (state_at c) (places c) p → {u : List ℕ} {k : ℕ} → u ≡ noted g.many h to → k ≡ sends h
-      → {w : Senders} → w ≡ grown g k → Noted c 0 w u × (length u ≡ length to)
-  note_turn N {p} at lt room i {u} {k} v x {w} y =
-      let h = part (state_at c) (places c) g.next in
-      let j = i ∙ ap (part (state_at c) (places c)) (sym at) in
-      let e : u ≡ noted g.many h to = v ∙ ap (λ (z : History). noted g.many z to) j in
-      let f : k ≡ sends h = x ∙ ap sends j in
-      let few = c.table.laid.3 in
-      let there : g.next < c.table.n = omega arith in
-      let short = part_length c g.next there ∙ ap (word c.positions.now) at in
-      let l = sends_length h in
-      let len = ap length e ∙ noted_length g.many to h in
+  pub note_turn : true ≡ ltb (g.many + r.count) (length to) → {w : Senders} → w ≡ grown g (sends (held r)) → {u : List ℕ} → u ≡ noted g.many (held r) to
+      → NotedAt t cut 0 w u × (length u ≡ length to) × (w.from ≡ g.from) × (w.next ≡ p + 1)
+  note_turn fits {w} x {u} y =
+      let few = t.laid.3 in
+      let room = true-ltb (g.many + r.count) (length to) fits in
+      let many = ap length here in
+      let count = held_length r in
+      let l = sends_length (held r) in
+      let len = ap length y ∙ noted_length g.many to (held r) in
+      let e : u ≡ noted g.many (part (state_of t) cut g.next) to = y ∙ ap (λ (z : History). noted g.many z to) here in
       let most = N.most in (
-        subst (λ (z : Senders). Noted c 0 z u) (sym y) (record {
-          group = group_next (state_at c) (places c) g N.group N.order (omega arith) f;
-          notes = subst (Left (state_at c) (places c) 0 (grown g k)) (sym e)
-              (notes_next (state_at c) (places c) g N.group c.table.n c.table.e few N.order there (part_legal c g.next) to (omega arith) N.notes k);
+        subst (λ (z : Senders). NotedAt t cut 0 z u) (sym x) (record {
+          group = group_next (state_of t) cut g N.group N.order (omega arith) (ap sends here);
+          notes = subst (Left (state_of t) cut 0 (grown g (sends (held r)))) (sym e)
+              (notes_next (state_of t) cut g N.group t.n t.e few N.order (omega arith) (legal_part t cut g.next) to (omega arith) N.notes (sends (held r)));
           order = let o = N.order in omega arith;
           most = omega arith;
           room = omega arith;
         }),
         len,
+        ap (λ (z : Senders). z.from) x,
+        ap (λ (z : Senders). z.next) x ∙ ap (λ (i : ℕ). i + 1) at,
       )
 
-  -- one receiver more
+  -- there is no room for it: it isn't the first one
+  pub note_stop : false ≡ ltb (g.many + r.count) (length to) → t.e < length to → {q : ℕ} → g.from ≡ q → {w : Senders} → w ≡ g → {u : List ℕ} → u ≡ to
+      → NotedAt t cut 0 w u × (w.from ≡ q) × (q < w.next)
+  note_stop full room {q} a {w} x {u} y = rw (x, y) (N, a, subst (λ (i : ℕ). i < g.next) a (go (dec_lt g.from g.next)))
+    where
+      go : Dec (g.from < g.next) → g.from < g.next
+      go (yes l) = l
+      go (no l) =
+          let less = false-ltb (g.many + r.count) (length to) full in
+          let o = N.order in
+          let z : g.next ≡ g.from = omega arith in
+          let all = N.group.all in
+          let none = ap (sent_below (state_of t) cut) z in
+          let count = held_length r in
+          let many = ap length is in
+          let part_short = older_length (upto_is_older (get_or cut p 0) (history (state_of t) p)) in
+          let s = short t p in
+          absurd (omega arith)
+
+-- one receiver more
+module _ (c : Cut) (g : Senders) (to : List ℕ) where
   pub strike_turn : {p : ℕ} → Noted c p g to → p < c.table.n → {h : History} → h ≡ part (state_at c) (places c) p → {u : List ℕ}
       → u ≡ struck g.spans p h to → Noted c (p + 1) g u × (length u ≡ length to)
   strike_turn {p} N lt i {u} x =

@@ -11,11 +11,11 @@ use borrow.Author.Tests.{le-ltb}
 use Rattle.xdr.specs.Words.{word, words}
 use Rattle.xdr.proofs.Words.{words_get}
 use Rattle.rules.specs.Records.{State, history, sends}
-use Rattle.rules.specs.Lines.{part, upto}
+use Rattle.rules.specs.Lines.{part}
 use Rattle.rules.specs.Resend.{above}
 use Rattle.basics.proofs.Booleans.{Test, passes, fails, test}
 use Rattle.records.proofs.Histories.{each_older}
-use Rattle.records.proofs.Cuts.{upto_is_older, upto_exact}
+use Rattle.records.proofs.Cuts.{upto_is_older}
 use Rattle.records.proofs.Transit.{above_none}
 use Rattle.tables.proofs.Laid.{Legal, Law, sends_length}
 use Rattle.tables.proofs.WellLaid.{decoded_short}
@@ -54,7 +54,7 @@ all_within s n positions whole none p lt =
     let z = cut_at n positions whole p lt in
     omega arith
 
--- no process has more records, or sends, than there is room for
+-- no process has more records, or sends, than there is room for; a part of its records is lawful as they are
 module _ (t : Table) where
   pub short : (q : ℕ) → length (history (state_of t) q) ≤ t.e
   short q =
@@ -68,14 +68,12 @@ module _ (t : Table) where
       let l = sends_length (history (state_of t) q) in
       omega arith
 
+  pub legal_part : (cut : List ℕ) (p : ℕ) → Legal t.n t.e p (part (state_of t) cut p)
+  legal_part cut p = each_older (Law t.n t.e p) (upto_is_older (get_or cut p 0) (history (state_of t) p)) (lawful t p)
+
 module _ (c : Cut) where
   pub part_legal : (p : ℕ) → Legal c.table.n c.table.e p (part (state_at c) (places c) p)
-  part_legal p = each_older (Law c.table.n c.table.e p) (upto_is_older (get_or (places c) p 0) (history (state_at c) p)) (lawful c.table p)
-
-  pub part_length : (p : ℕ) → p < c.table.n → length (part (state_at c) (places c) p) ≡ word c.positions.now p
-  part_length p lt =
-      let h = history (state_at c) p in
-      ap (λ (i : ℕ). length (upto i h)) (cut_at c.table.n c.positions.now c.whole p lt) ∙ upto_exact (word c.positions.now p) h (c.within p lt)
+  part_legal = legal_part c.table (places c)
 
   pub position_small : (p : ℕ) → p < c.table.n → word c.positions.now p ≤ c.table.e
   position_small p lt = let w = c.within p lt in let s = short c.table p in omega arith

@@ -4,6 +4,7 @@ use Rattle.xdr.specs.Words.{words}
 use Rattle.rules.specs.Records.{State, sends, destination, has_receipt}
 use Rattle.rules.specs.Lines.{part}
 use Rattle.rules.specs.Resend.{Message, message, transit_of}
+use Rattle.layout.specs.declared.Table.{Table}
 use Rattle.layout.specs.Tables.{state_of}
 use Rattle.cuts.specs.Notes.{span_of}
 use Rattle.notes.specs.declared.cut.Cut.{Cut}
@@ -55,13 +56,16 @@ left s cut p q k =
 abbrev pub Left : State → List ℕ → ℕ → Senders → List ℕ → Type 0
 Left s cut p g to = (q k : ℕ) → g.from ≤ q → q < g.next → 0 < k → k ≤ sends (part s cut q) → get_or to ((span_of g.spans q).start + k) 0 ≡ left s cut p q k
 
--- what is noted of a cut, where the receipts of the first p processes are struck
-pub record Noted (c : Cut) (p : ℕ) (g : Senders) (to : List ℕ) : Type 0 where
-  pub group : Group (state_at c) (places c) g
-  pub notes : Left (state_at c) (places c) p g to
+-- what is noted of a cut of a table, where the receipts of the first p processes are struck
+pub record NotedAt (t : Table) (cut : List ℕ) (p : ℕ) (g : Senders) (to : List ℕ) : Type 0 where
+  pub group : Group (state_of t) cut g
+  pub notes : Left (state_of t) cut p g to
   pub order : g.from ≤ g.next
-  pub most : g.next ≤ c.table.n
+  pub most : g.next ≤ t.n
   pub room : g.many < length to
+
+abbrev pub Noted : Cut → ℕ → Senders → List ℕ → Type 0
+Noted c = NotedAt c.table (places c)
 
 -- ---- as messages
 

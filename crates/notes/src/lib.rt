@@ -7,26 +7,30 @@
 
 mod cut;
 
-ghost use Rattle.std.specs.Prelude.{◌≡◌, ◌<◌, length};
+ghost use Rattle.std.specs.Prelude.{◌≡◌, cond, ◌+◌, ◌≤◌, ◌<◌, ltb, length};
+ghost use Rattle.rules.specs.Records.{sends};
+ghost use Rattle.events.specs.Events.{held};
+ghost use Rattle.cuts.specs.Notes.{noted};
 ghost use Rattle.notes.specs.Noted.{HasRoom, none_from, grown, Noted, Has, sent_by, left_in, messages_of};
 
 pub use cut::Cut;
 use cuts::Span;
+use events::Records;
 use std::marker::Model;
 
 // The senders that are noted: from process `from` on, before `next`. `spans` has where each is noted, and `many` is how many notes there
 // are.
 #[derive(Clone, Copy, Drop)]
-struct Senders {
+pub struct Senders {
     from: usize,
-    next: usize,
+    pub next: usize,
     many: usize,
-    spans: [Span; 16],
+    pub spans: [Span; 16],
 }
 
 impl Senders {
     // Nobody yet, of those from process q on.
-    fn none(q: usize) -> Senders
+    pub fn none(q: usize) -> Senders
         ensures { result ≡ none_from q }
     {
         Senders {
@@ -42,12 +46,29 @@ impl Senders {
         requires { (self.old.next < 16) × (self.old.many < 65536) × (count < 65536) }
         ensures { self.new ≡ grown self.old count }
     {
-        self.spans[self.next] = Span {
-            start: self.many as u16,
+        let many = self.many;
+        let next = self.next;
+        self.many = many + count;
+        self.next = next + 1;
+        self.spans[next] = Span {
+            start: many as u16,
             count: count as u16,
         };
-        self.many += count;
-        self.next += 1;
+    }
+
+    // Notes where the sends of process `next` go, by its records, if there is room: it has no more of them than records. Whether there was.
+    pub fn note(&mut self, records: &Records, to: &mut [u8]) -> bool
+        requires { (self.old.next < 16) × (self.old.many < length to.old) × (length to.old ≤ 65536) }
+        ensures room { result ≡ ltb (self.old.many + records.now.count) (length to.old) }
+        ensures senders { self.new ≡ cond result (grown self.old (sends (held records.now))) self.old }
+        ensures notes { to.new ≡ cond result (noted self.old.many (held records.now) to.old) to.old }
+    {
+        let room = self.many + records.count < to.len();
+        if room {
+            let count = cuts::note(records, self.many, to);
+            self.add(count);
+        }
+        room
     }
 }
 
@@ -61,8 +82,7 @@ struct Room<'a> {
 
 // Each method says which notes there are then, and that the cut is the same: this changes from one to the next, so that no type has it.
 impl<'a> Room<'a> {
-    // Notes where the sends in the cut go, of as many processes from q on as there is room for: no process has more of them than records in
-    // the cut.
+    // Notes where the sends in the cut go, of as many processes from q on as there is room for.
     fn note_sends(&mut self, q: usize) -> Senders
         requires { q < self.old.cut.table.n }
         ensures { Noted self.old.cut 0 result self.new.to.now × (self.new.cut ≡ self.old.cut) × (result.from ≡ q) × (q < result.next) }
@@ -70,12 +90,9 @@ impl<'a> Room<'a> {
         let cut = self.cut;
         let mut senders = Senders::none(q);
         for p in q..cut.table.n {
-            let many = senders.many;
-            if self.to.len() <= many + cut.position(p) {
+            if !senders.note(&cut.part(p), self.to) {
                 break;
             }
-            let count = cuts::note(&cut.part(p), many, self.to);
-            senders.add(count);
         }
         senders
     }

@@ -1,12 +1,12 @@
 -- The failure line that is lowered from the top is the latest permitted cut without orphans, for every state.
 use mathlib.Core.Path.{◌≡◌, refl, sym, ap, ap₂, ◌∙◌}
-use mathlib.Core.Bool.{false}
+use mathlib.Core.Bool.{false, not}
 use mathlib.Core.List.Memᴰ
 use mathlib.Core.List.{List, [], ◌∷◌, map}
 use Prim.Native.Nat.{ℕ, zero, suc, ◌+◌, ◌≤◌, ◌<◌, zero-le}
 use native.Mathlib.Nat.{zero-add, suc-add, add-suc, add-zero, not-suc-le-zero, le_of_suc-le-suc}
 use native.Mathlib.Omega.{arith}
-use native.Mathlib.Decide.{dec_le}
+use native.Mathlib.Decide.{dec_le, dec_lt}
 use lib.Dec.{leb}
 use lib.ListN.{length, get_or, get_or-eq_default}
 use lib.Seq.{ext_get_or}
@@ -17,6 +17,10 @@ use Rattle.rules.specs.FailureLine.{lowered, each_from, round, rounds, top, sum,
 use Rattle.basics.proofs.Booleans.{Test, passes, fails, test}
 use Rattle.records.proofs.Histories.{holds_older}
 use Rattle.records.proofs.Cuts.{upto_mono, any_none, none_any, lowered_le, lowered_same, lowered_permitted, lowered_keeps, top_le, top_permitted, top_latest}
+
+-- no process has records but those of the state
+pub beyond : (s : State) (q : ℕ) → length s ≤ q → history s q ≡ []
+beyond s q le = get_or-eq_default s [] le
 
 -- ---- lists of positions
 
@@ -90,7 +94,7 @@ round_permitted mask s cut P =
 abbrev pub AtMost : List ℕ → List ℕ → Type 0
 AtMost other cut = (p : ℕ) → get_or other p 0 ≤ get_or cut p 0
 
-orphan_later : (s : State) (other cut : List ℕ) → AtMost other cut → (p : ℕ) (e : Event) → orphan s other p e ≡ false
+pub orphan_later : (s : State) (other cut : List ℕ) → AtMost other cut → (p : ℕ) (e : Event) → orphan s other p e ≡ false
     → orphan s cut p e ≡ false
 orphan_later s other cut a p (basic m) x = refl
 orphan_later s other cut a p (forced m) x = refl
@@ -203,6 +207,22 @@ failure_line_lem mask s =
       clean = rest_clean s (rounds k s (tops mask s)) (rounds_fixed s k (tops mask s) (tops_sum mask s 0));
       latest = λ other P c p lt. rounds_keeps mask s other P c k (tops mask s) (each_length (λ p h. top (failed mask p) h) s 0) (tops_latest mask s other P) p;
     }
+
+-- ---- two cuts with the same positions have the same parts, and so the same orphans
+
+module _ (s : State) (P Q : List ℕ) (same : (p : ℕ) → p < length s → get_or P p 0 ≡ get_or Q p 0) where
+  pub same_part : (q : ℕ) → part s P q ≡ part s Q q
+  same_part q = go (dec_lt q (length s))
+    where
+      go : Dec (q < length s) → part s P q ≡ part s Q q
+      go (yes l) = ap (λ (x : ℕ). upto x (history s q)) (same q l)
+      go (no l) = rw (beyond s q (omega arith))
+
+  pub same_orphan : (p : ℕ) (e : Event) → orphan s P p e ≡ orphan s Q p e
+  same_orphan p (basic m) = refl
+  same_orphan p (forced m) = refl
+  same_orphan p (sent q) = refl
+  same_orphan p (received q k c) = ap (λ (h : History). not (has_send h p k)) (same_part q)
 
 -- ---- there is one such line, so that any way to find it gives the same positions
 

@@ -22,7 +22,7 @@ pub fn bit(mask: u32, p: usize) -> bool
 
 // Process p at its latest permitted position; it failed if `down`.
 #[tactic(auto, using(crate::proofs::Starts::counted, crate::proofs::Starts::top_down, crate::proofs::Starts::top_up, tables::proofs::Laid::sends_length))]
-fn top(table: &Table, p: usize, down: bool) -> Part
+pub fn top(table: &Table, p: usize, down: bool) -> Part
     requires { p < table.now.n }
     ensures { (result.position ≡ top_of down (history (state_of table.now) p)) × (result.sends ≡ sends_of (upto result.position (history (state_of table.now) p))) }
 {

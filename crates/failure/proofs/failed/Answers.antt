@@ -8,4 +8,4 @@ returns-in_err-table c = let a = c.args in
 pub returns : goal.returns
 returns c = let a = c.args in
     let b = c.in_ok-table in
-    rw (← b.ensures.table) (failed_done b.table a.area.now a.mask (rw (← b.ensures.table) at b.ensures.row) _ c.line-line.ensures c.back.ensures c.answer.ensures)
+    rw (← b.ensures.table) (failed_done b.table a.area.now a.mask (rw (← b.ensures.table) at b.ensures.row) _ c.line-line.ensures.line c.back.ensures c.answer.ensures)

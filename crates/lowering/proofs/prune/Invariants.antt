@@ -1,7 +1,0 @@
-use Rattle.layout.specs.Tables.{state_of}
-use Rattle.cuts.specs.Parts.{positions, counts}
-use Rattle.lowering.specs.Lowering.{Pruned}
-use Rattle.lowering.proofs.prune.Given as goal
-
-abbrev pub invariant-loop-p : goal.invariant-loop-p
-invariant-loop-p l = Pruned (state_of l.table) (positions l.fn.cut) (positions l.lowered) (counts l.lowered) l.p
