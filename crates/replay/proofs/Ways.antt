@@ -30,10 +30,6 @@ module _ (t : Table) {done : List Done} {notes : List ℕ} (W : Way t done notes
   abbrev s : State
   s = state_of t
 
-  -- a process's records that were made, by how many they are
-  pub made_part : (p : ℕ) → p < t.n → upto (done_at done p).records (history s p) ≡ history c p
-  made_part p lt = rw (W.stands p lt).0 (upto_older (W.reached.under p))
-
   pub done_within : (p : ℕ) → p < t.n → (done_at done p).records ≤ length (history s p)
   done_within p lt = let a = (W.stands p lt).0 in let l = older_length (W.reached.under p) in omega arith
 

@@ -1,6 +1,6 @@
--- Document 02, slip 5: whether some run leaves a table's bytes, computed: the calls that its records name are made once more, each process
--- as far as it goes, and what they leave is compared with it. That this computes what the document says, for every table, is the theorem
--- stated in theorems/specs/Audited.antt.
+-- Document 02, slip 5: whether some run leaves a table's bytes, computed: the calls that its records name are made once more, sweep by
+-- sweep one of each process, and what they leave is compared with it. That this computes what the document says, for every table, is the
+-- theorem stated in theorems/specs/Audited.antt.
 use Rattle.std.specs.Prelude.{Bool, not, cond, List, [], ◌∷◌, ◌++◌, map, ℕ, zero, suc, eqb, length, replicate}
 use Rattle.std.proofs.Math.Option.{Option, none, some}
 use Rattle.xdr.specs.Words.{word}

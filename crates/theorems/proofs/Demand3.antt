@@ -128,7 +128,7 @@ both n E d l₁ l₂ =
     }
 
 -- an accepted fresh call
-pub fresh_accepted : (lent : List ℕ) (n E : ℕ) → (fresh_on lent n E).returned ≡ 0 → InRange n E × ((fresh_on lent n E).table ≡ layout n E (fresh n))
+fresh_accepted : (lent : List ℕ) (n E : ℕ) → (fresh_on lent n E).returned ≡ 0 → InRange n E × ((fresh_on lent n E).table ≡ layout n E (fresh n))
 unfolding fresh_on
 fresh_accepted lent n E r =
     let rows = row 1 (not (in_range n E)) ∷ row 2 (not (eqb (length lent) (size n E))) ∷ [] in
