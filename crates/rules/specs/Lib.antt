@@ -6,9 +6,11 @@ pub mod Lines
 pub mod FailureLine
 pub mod Calls
 pub mod Resend
+pub mod Grounds
 pub mod Lists
 pub mod Audit
 pub mod Worked
 pub mod WorkedResend
+pub mod WorkedGrounds
 pub mod WorkedAudit
 pub mod Text

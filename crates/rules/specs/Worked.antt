@@ -17,7 +17,7 @@ pub stated_lengths : lengths ≡ 36 ∷ 160 ∷ 32872 ∷ 262344 ∷ []
 stated_lengths = same_equal lengths (36 ∷ 160 ∷ 32872 ∷ 262344 ∷ []) refl
 
 -- the table that a fresh call leaves, whatever the bytes were
-abbrev fresh_table : ℕ → ℕ → List ℕ
+abbrev pub fresh_table : ℕ → ℕ → List ℕ
 fresh_table n E = (fresh_on (replicate (size n E) 255) n E).table
 
 -- an area of m words
@@ -25,7 +25,7 @@ abbrev pub area : ℕ → List ℕ
 area m = replicate (4 * m) 255
 
 -- an entry with an area of the exact length
-abbrev exact : ℕ → Call → Entry
+abbrev pub exact : ℕ → Call → Entry
 exact p call = entry p call (replicate (area_length call) 255)
 
 abbrev pub worked_calls : List Entry
@@ -118,7 +118,7 @@ worked_answers_lem = sames_equal (map told (outcomes_on (fresh_table 3 6) worked
 
 -- Document 02, slip 2: "with n = 2, checkpoint 0, mask 1, the positions 1, 0 stay and the mask and count become 1, 1". Process 0 is at its
 -- count and goes back since it failed; so does process 1 with mask 2, at its initial checkpoint; and nobody with mask 0.
-abbrev just_saved : List ℕ
+abbrev pub just_saved : List ℕ
 just_saved = table_after (fresh_table 2 4) (exact 0 checkpoint ∷ [])
 
 abbrev saved_cases : List Case

@@ -6,7 +6,7 @@ use Rattle.rules.specs.Resend.{in_transit, resend_on}
 use Rattle.rules.specs.Worked.{Case, case, AsStated, as_stated, area, worked}
 
 -- No run makes this table of three processes: 0 sends to 2, 1 sends to 0 and has a receipt of what 0 sent to 2.
-abbrev stray_receipt : List ℕ
+abbrev pub stray_receipt : List ℕ
 stray_receipt =
     bytes
     (3 ∷ 2
