@@ -7,3 +7,4 @@ pub mod Cuts
 pub mod FailureLines
 pub mod Masks
 pub mod Transit
+pub mod Grounds

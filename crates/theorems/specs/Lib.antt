@@ -5,3 +5,4 @@ pub mod BilledOnce
 pub mod Places
 pub mod Fields
 pub mod Audited
+pub mod Grounds
