@@ -4,6 +4,7 @@
 
 pub use audit::audit as ckpt_audit;
 pub use failure::failed as ckpt_failed;
+pub use grounds::grounds as ckpt_grounds;
 pub use layout::fresh as ckpt_fresh;
 pub use lines::line as ckpt_line;
 pub use resend::resend as ckpt_resend;

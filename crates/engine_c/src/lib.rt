@@ -6,6 +6,7 @@ ghost use Rattle.std.specs.Prelude.{◌≡◌, [], length};
 ghost use Rattle.rules.specs.Steps.{checkpoint, send, receipt};
 ghost use Rattle.rules.specs.Calls.{outcome, outcome_with, fresh_on, step_on, line_on, failed_on};
 ghost use Rattle.rules.specs.Resend.{resend_on};
+ghost use Rattle.rules.specs.Grounds.{grounds_on};
 ghost use Rattle.rules.specs.Audit.{audit_on};
 
 #[unsafe(no_mangle)]
@@ -48,6 +49,13 @@ pub extern "C" fn ckpt_failed(table: &[u8], area: &mut [u8], mask: u32) -> u32
     ensures { outcome result table.now area.new ≡ failed_on table.now area.old mask }
 {
     refusals::returned(engine::ckpt_failed(table, area, mask))
+}
+
+#[unsafe(no_mangle)]
+pub extern "C" fn ckpt_grounds(table: &[u8], area: &mut [u8], mask: u32) -> u32
+    ensures { outcome result table.now area.new ≡ grounds_on table.now area.old mask }
+{
+    refusals::returned(engine::ckpt_grounds(table, area, mask))
 }
 
 #[unsafe(no_mangle)]

@@ -120,7 +120,7 @@ module _ (w : ℕ → ℕ) (at i k : ℕ) {c : ℕ} (l : i < c) (few : sends (re
   here = at + width * i
 
   -- a send's number and what it carries, by its words
-  numbered_as : {q b m : ℕ} → sent q ≡ event_at w here → Spells w here (event.Sent q b m) → (b ≡ suc (sends h)) × (m ≡ number h)
+  pub numbered_as : {q b m : ℕ} → sent q ≡ event_at w here → Spells w here (event.Sent q b m) → (b ≡ suc (sends h)) × (m ≡ number h)
   numbered_as e r = let L = laid i l (sent_kind w here e) in (r.0 ∙ L.0, r.1 ∙ L.1)
 
   pub send_found : {q b m : ℕ} → sent q ≡ event_at w here → Spells w here (event.Sent q b m) → b ≡ k
