@@ -1,5 +1,5 @@
-/* The checkpoint table of a block controller, its restart lines (document 01), the messages to send again after a restart and the
-   audit of a table that comes from storage (document 02), over lent bytes.
+/* The checkpoint table of a block controller, its restart lines (document 01), why a process goes back, the messages to send again
+   after a restart and the audit of a table that comes from storage (document 02), over lent bytes.
 
    The caller lends a table and an area for the answer. A call that is accepted returns CKPT_OK. Any other number is that of the
    first check that stopped it, and whatever was lent is then as it was, whatever bytes, lengths and numbers came in. Each call
@@ -12,13 +12,14 @@
    - Table, area, positions and scratch do not overlap. Nobody else writes them during a call, nor reads what the call may write.
    - A null pointer with length 0 is an area of no bytes: no call looks at it, and its length stops the call, if nothing before it
      did. A null pointer with any other length is an error that no call can see.
-   - ckpt_failed needs 17 KiB of stack, ckpt_resend less than 4 KiB, ckpt_audit less than 1 KiB, every other call less than 512
-     bytes.
+   - Every call needs less than 4 KiB of stack, ckpt_audit less than 1 KiB, and all but this one, ckpt_failed, ckpt_grounds and
+     ckpt_resend less than 512 bytes.
 
-   Calls keep nothing of their own. They may run at the same time on different tables, and ckpt_line, ckpt_failed, ckpt_resend and
-   ckpt_audit on one table too, each with its own area, and ckpt_audit with its own scratch, since it writes both. A call that is cut
-   short, as by a power cut, may leave a part of what it writes: who keeps tables in storage keeps the last whole one until the next
-   is whole, and audits what it loads: a table that gets 1 there is one that these calls make. examples/storage.c shows how. */
+   Calls keep nothing of their own. They may run at the same time on different tables, and ckpt_line, ckpt_failed, ckpt_grounds,
+   ckpt_resend and ckpt_audit on one table too, each with its own area, and ckpt_audit with its own scratch, since it writes both. A
+   call that is cut short, as by a power cut, may leave a part of what it writes: who keeps tables in storage keeps the last whole one
+   until the next is whole, and audits what it loads: a table that gets 1 there is one that these calls make. examples/storage.c shows
+   how. */
 #ifndef CKPT_H
 #define CKPT_H
 
@@ -29,11 +30,11 @@
 extern "C" {
 #endif
 
-/* The version, as one number to compare (0.4.0 is 400) and as text. A record has four words since 0.2.0; a table that an earlier
+/* The version, as one number to compare (0.5.0 is 500) and as text. A record has four words since 0.2.0; a table that an earlier
    version stored is refused by its length. A receipt answers four words since 0.3.0; a shorter area is refused. ckpt_audit is there
-   since 0.4.0. */
+   since 0.4.0, and ckpt_grounds is there since 0.5.0. */
 #define CKPT_VERSION_MAJOR 0
-#define CKPT_VERSION_MINOR 4
+#define CKPT_VERSION_MINOR 5
 #define CKPT_VERSION_PATCH 0
 #define CKPT_VERSION (CKPT_VERSION_MAJOR * 10000 + CKPT_VERSION_MINOR * 100 + CKPT_VERSION_PATCH)
 #define CKPT_VERSION_STRING CKPT_TEXT(CKPT_VERSION_MAJOR) "." CKPT_TEXT(CKPT_VERSION_MINOR) "." CKPT_TEXT(CKPT_VERSION_PATCH)
@@ -57,12 +58,19 @@ extern "C" {
 #define CKPT_AREA_TOO_SHORT 13u   /* the area is too short for the messages to send again */
 #define CKPT_BAD_SCRATCH 14u      /* the scratch is not as long as the table */
 
+/* The grounds that ckpt_grounds answers. */
+#define CKPT_GROUND_STAYS 0u   /* it has not failed and stays at its count of records */
+#define CKPT_GROUND_FAILED 1u  /* it failed and is at its last checkpoint */
+#define CKPT_GROUND_RECEIPT 2u /* a receipt after its position is of a message that is not sent any more */
+
 /* The ranges: n processes, 1 to 16, named 0 to n - 1, with e records each, 1 to 1024. */
 #define CKPT_MAX_PROCESSES 16u
 #define CKPT_MAX_RECORDS 1024u
 
-/* The words of a record: kind, checkpoint number or other process, send number, carried number. */
+/* The words of a record: kind, checkpoint number or other process, send number, carried number. The record at this place of process
+   p, counted from 1, begins at this word of a table, which ckpt_word reads. */
 #define CKPT_RECORD_WORDS 4ul
+#define CKPT_RECORD_AT(e, p, place) (5ul + (p) * (3ul + CKPT_RECORD_WORDS * (e)) + CKPT_RECORD_WORDS * ((place) - 1ul))
 
 /* The lengths in bytes of a table and of each call's answer, for n and e in their ranges. The list of ckpt_resend is as long as its
    count of messages makes it; CKPT_RESEND_MOST is enough for any. */
@@ -72,6 +80,7 @@ extern "C" {
 #define CKPT_RECEIPT_LENGTH 16ul
 #define CKPT_LINE_LENGTH(n) (4ul * (n))
 #define CKPT_FAILED_LENGTH(n) (4ul * (n) + 8ul)
+#define CKPT_GROUNDS_LENGTH(n) (8ul * (n))
 #define CKPT_RESEND_LENGTH(count) (4ul + 12ul * (count))
 #define CKPT_RESEND_MOST(n, e) (4ul + 12ul * (n) * (e))
 #define CKPT_AUDIT_LENGTH 4ul
@@ -120,6 +129,18 @@ uint32_t ckpt_line(const uint8_t *table, size_t table_len, uint8_t *area, size_t
    the processes of this mask, and no other. The table stays as it is.
    Returns CKPT_BAD_TABLE_LENGTH, CKPT_BAD_DIMENSIONS, CKPT_NOT_WELL_LAID, CKPT_BAD_AREA_LENGTH, CKPT_BAD_MASK, CKPT_OK. */
 uint32_t ckpt_failed(const uint8_t *table, size_t table_len, uint8_t *area, size_t area_len, uint32_t mask);
+
+/* Why each process is where the failure line of this mask has it, for field service; ckpt_failed with the same mask answers where.
+   The area gets two words for each process, its ground and a place:
+   - CKPT_GROUND_STAYS, 0: it has not failed and is at its count of records. It goes on.
+   - CKPT_GROUND_FAILED, 0: it failed and is at its last checkpoint, or at 0 where it has no checkpoint record.
+   - CKPT_GROUND_RECEIPT and a place: its first receipt after its position of a message that is unsent there, as the sender goes back
+     to before the send. Every later state that the process might have been at has received this message. In a table that no calls
+     made it may also be one that was never sent to this process. The place is counted from 1 among the records of the process, and
+     the words at CKPT_RECORD_AT(e, p, place) of the table have the message's sender and send number.
+   The processes with a ground other than CKPT_GROUND_STAYS are those of the mask that ckpt_failed answers. The table stays as it is.
+   Returns CKPT_BAD_TABLE_LENGTH, CKPT_BAD_DIMENSIONS, CKPT_NOT_WELL_LAID, CKPT_BAD_AREA_LENGTH, CKPT_BAD_MASK, CKPT_OK. */
+uint32_t ckpt_grounds(const uint8_t *table, size_t table_len, uint8_t *area, size_t area_len, uint32_t mask);
 
 /* What to send again after a restart at these positions: n words, as ckpt_line answers them, or the first n that ckpt_failed does.
    They may be any cut, each position from 0 to its process's count of records. The area gets the count of the messages sent before

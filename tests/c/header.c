@@ -1,6 +1,6 @@
 /* The header's names against documents 01 and 02, in what C99 and C++17 have in common. Every row of document 01's table "Where a
    call is stopped" and every row that document 02 adds is met by calls that meet no earlier one; the lengths are the documents';
-   areas of no bytes are refused by their length. The audit's two verdicts are met, whatever its scratch held. */
+   areas of no bytes are refused by their length. The audit's two verdicts are met, whatever its scratch held, and each ground. */
 #include <ckpt.h>
 #include <ckpt.h> /* once more: it may be included twice */
 
@@ -10,12 +10,12 @@
 #include "table.h"
 
 #if CKPT_TABLE_LENGTH(16, 1024) != 262344 || CKPT_RESEND_MOST(16, 1024) != 196612 || CKPT_BAD_SCRATCH != 14 || \
-    CKPT_SCRATCH_LENGTH(16, 1024) != 262344
+    CKPT_SCRATCH_LENGTH(16, 1024) != 262344 || CKPT_GROUNDS_LENGTH(16) != 128 || CKPT_RECORD_AT(16, 15, 1) != 1010
 #error "the header's macros can't be used by the preprocessor"
 #endif
 
-#if CKPT_VERSION < 400
-#error "a receipt answers four words since 0.3.0, and ckpt_audit is there since 0.4.0"
+#if CKPT_VERSION < 500
+#error "ckpt_audit is there since 0.4.0, and ckpt_grounds since 0.5.0"
 #endif
 
 /* OLD_LENGTH is that of a table of version 0.1.0, OLD_RECEIPT_LENGTH that of a receipt's area before 0.3.0. */
@@ -43,6 +43,7 @@ static uint32_t send(uint32_t p, uint32_t q) { return ckpt_send(LENT, area, CKPT
 static uint32_t receipt(uint32_t p, uint32_t q, uint32_t k) { return ckpt_receipt(LENT, area, CKPT_RECEIPT_LENGTH, p, q, k); }
 static uint32_t line(uint32_t number) { return ckpt_line(LENT, area, CKPT_LINE_LENGTH(N), number); }
 static uint32_t failed(uint32_t mask) { return ckpt_failed(LENT, area, CKPT_FAILED_LENGTH(N), mask); }
+static uint32_t grounds(uint32_t mask) { return ckpt_grounds(LENT, area, CKPT_GROUNDS_LENGTH(N), mask); }
 static uint32_t resend(size_t length) { return ckpt_resend(LENT, POSITIONS, area, length); }
 static uint32_t audit(void) { return ckpt_audit(LENT, area, CKPT_AUDIT_LENGTH, SCRATCH); }
 
@@ -54,6 +55,7 @@ static void exact(uint32_t number, uint8_t *lent, size_t length, size_t more) {
     SAME(ckpt_receipt(lent, length, area, CKPT_RECEIPT_LENGTH + more, 0, 1, 1), number);
     SAME(ckpt_line(lent, length, area, CKPT_LINE_LENGTH(N) + more, 0), number);
     SAME(ckpt_failed(lent, length, area, CKPT_FAILED_LENGTH(N) + more, 0), number);
+    SAME(ckpt_grounds(lent, length, area, CKPT_GROUNDS_LENGTH(N) + more, 0), number);
     SAME(ckpt_audit(lent, length, area, CKPT_AUDIT_LENGTH + more, SCRATCH), number);
 }
 
@@ -88,6 +90,9 @@ static void numbers(void) {
     SAME(CKPT_BAD_POSITIONS, 12);
     SAME(CKPT_AREA_TOO_SHORT, 13);
     SAME(CKPT_BAD_SCRATCH, 14);
+    SAME(CKPT_GROUND_STAYS, 0);
+    SAME(CKPT_GROUND_FAILED, 1);
+    SAME(CKPT_GROUND_RECEIPT, 2);
 }
 
 /* Rows of the table itself: its length, n and E, its words. */
@@ -141,6 +146,51 @@ static void later_rows(void) {
     SAME(failed(1), CKPT_OK);
     SAME(ckpt_word(area, N), 3);
     SAME(ckpt_word(area, N + 1), 2);
+}
+
+/* Refused with this number, grounds of an area of this length leave it as it was. */
+static void grounds_refused(uint32_t number, size_t area_length, uint32_t mask) {
+    memset(area, 0xee, sizeof area);
+    SAME(ckpt_grounds(LENT, area, area_length, mask), number);
+    for (size_t i = 0; i < sizeof area; i++) SAME(area[i], 0xee);
+}
+
+/* The ground of process p and its place, and not a byte after those of the last process. */
+static void grounded(uint32_t p, uint32_t ground, uint32_t place) {
+    SAME(ckpt_word(area, 2 * p), ground);
+    SAME(ckpt_word(area, 2 * p + 1), place);
+    SAME(area[CKPT_GROUNDS_LENGTH(N)], 0xee);
+}
+
+/* On the table that later_rows left: process 0 has a checkpoint and the send (0, 1), process 1 a forced checkpoint and its receipt,
+   process 2 nothing. */
+static void ground_rows(void) {
+    size_t length = CKPT_GROUNDS_LENGTH(N), received = CKPT_RECORD_AT(E, 1, 2);
+    grounds_refused(CKPT_BAD_AREA_LENGTH, 0, 0);
+    grounds_refused(CKPT_BAD_AREA_LENGTH, length - 1, 1u << N);
+    grounds_refused(CKPT_BAD_AREA_LENGTH, length + 1, 0);
+    grounds_refused(CKPT_BAD_AREA_LENGTH, CKPT_FAILED_LENGTH(N), 0);
+    grounds_refused(CKPT_BAD_AREA_LENGTH, CKPT_LINE_LENGTH(N), 0);
+    grounds_refused(CKPT_BAD_MASK, length, 1u << N);
+    grounds_refused(CKPT_BAD_MASK, length, 1u << 31);
+    grounds_refused(CKPT_BAD_MASK, length, 0xffffffff);
+    memset(area, 0xee, sizeof area);
+    SAME(grounds(0), CKPT_OK);
+    for (uint32_t p = 0; p < N; p++) grounded(p, CKPT_GROUND_STAYS, 0);
+    SAME(grounds(1), CKPT_OK);
+    grounded(0, CKPT_GROUND_FAILED, 0);
+    grounded(1, CKPT_GROUND_RECEIPT, 2);
+    grounded(2, CKPT_GROUND_STAYS, 0);
+    SAME(ckpt_word(table, received + RECORD_KIND), KIND_RECEIPT); /* the place leads to the message (0, 1) */
+    SAME(ckpt_word(table, received + RECORD_A), 0);
+    SAME(ckpt_word(table, received + RECORD_B), 1);
+    SAME(grounds((1u << N) - 1), CKPT_OK);
+    for (uint32_t p = 0; p < N; p++) grounded(p, CKPT_GROUND_FAILED, 0); /* process 2 at 0 */
+    put_word(table, record_at(E, 0, 1) + RECORD_A, 2);                   /* the send goes to another: a table of no run */
+    SAME(grounds(0), CKPT_OK);
+    grounded(0, CKPT_GROUND_STAYS, 0);
+    grounded(1, CKPT_GROUND_RECEIPT, 2);
+    put_word(table, record_at(E, 0, 1) + RECORD_A, 1);
 }
 
 /* On the table that later_rows left: what was carried stands in the fourth word of send and receipt, and is part of what is
@@ -264,6 +314,8 @@ static void no_bytes(void) {
     SAME(ckpt_receipt(LENT, NULL, NO_BYTES, 0, 1, 1), CKPT_BAD_AREA_LENGTH);
     SAME(ckpt_line(LENT, NULL, NO_BYTES, 0), CKPT_BAD_AREA_LENGTH);
     SAME(ckpt_failed(LENT, NULL, NO_BYTES, 0), CKPT_BAD_AREA_LENGTH);
+    SAME(ckpt_grounds(LENT, NULL, NO_BYTES, 0), CKPT_BAD_AREA_LENGTH);
+    SAME(ckpt_grounds(LENT, NULL, NO_BYTES, 1u << N), CKPT_BAD_AREA_LENGTH);
     SAME(ckpt_resend(LENT, NULL, NO_BYTES, NULL, NO_BYTES), CKPT_BAD_POSITIONS);
     memset(positions, 0, sizeof positions);
     SAME(ckpt_resend(LENT, POSITIONS, NULL, NO_BYTES), CKPT_AREA_TOO_SHORT);
@@ -282,11 +334,16 @@ static void lengths(void) {
     SAME(CKPT_TABLE_LENGTH(n + 8, 4 * e), 262344);
     SAME(CKPT_TABLE_LENGTH(n + 1, e + 1), 8 + 4 * 9 * (3 + 4 * 257));
     SAME(CKPT_TABLE_LENGTH(N, E), 4 * section_at(E, N));
+    SAME(CKPT_RECORD_AT(E, 0, 1), 5);
+    SAME(CKPT_RECORD_AT(e, n - 1, e), record_at(e, n - 1, e - 1));
+    SAME(CKPT_RECORD_AT(e + 1, n + 1, e - 1), record_at(257, 9, 254));
     SAME(CKPT_CHECKPOINT_LENGTH, 4);
     SAME(CKPT_SEND_LENGTH, 8);
     SAME(CKPT_RECEIPT_LENGTH, 16);
     SAME(CKPT_LINE_LENGTH(n + 1), 36);
     SAME(CKPT_FAILED_LENGTH(n + 1), 44);
+    SAME(CKPT_GROUNDS_LENGTH(1), 8);
+    SAME(CKPT_GROUNDS_LENGTH(n + 1), 72);
     SAME(CKPT_RESEND_LENGTH(0), 4);
     SAME(CKPT_RESEND_LENGTH(n + 1), 112);
     SAME(CKPT_RESEND_MOST(n + 1, e + 1), 4 + 12 * 9 * 257);
@@ -314,6 +371,7 @@ int main(void) {
     lengths();
     table_rows();
     later_rows();
+    ground_rows();
     carried();
     resend_rows();
     audit_rows();

@@ -1,6 +1,6 @@
 /* Prints how many bytes of stack each call takes, its arguments and return address included, rounded up to 64. A call runs on a
    painted stack of its own, and what it paints over is counted. The frames don't depend on what is in a table but for the two sizes
-   of a failure line's notes, so a small and a large table show the most. Status 1 where a call takes more than ckpt.h says. */
+   of notes, so a small and a large table show the most. Status 1 where a call takes more than ckpt.h says. */
 #include <stdio.h>
 #include <string.h>
 
@@ -9,7 +9,7 @@
 enum { PAINT = 0xA5, SMALL_N = 3, SMALL_E = 6 };
 
 static uint8_t table[CKPT_TABLE_LENGTH(CKPT_MAX_PROCESSES, CKPT_MAX_RECORDS)];
-static uint8_t area[CKPT_FAILED_LENGTH(CKPT_MAX_PROCESSES)];
+static uint8_t area[CKPT_GROUNDS_LENGTH(CKPT_MAX_PROCESSES)];
 static uint8_t scratch[sizeof table];
 /* Process 0 at its send, the others at 0. */
 static const uint8_t positions[4 * CKPT_MAX_PROCESSES] = {0, 0, 0, 2};
@@ -24,19 +24,20 @@ static void send(void) { returned = ckpt_send(TABLE, area, CKPT_SEND_LENGTH, 0, 
 static void receipt(void) { returned = ckpt_receipt(TABLE, area, CKPT_RECEIPT_LENGTH, 1, 0, 1); }
 static void line(void) { returned = ckpt_line(TABLE, area, CKPT_LINE_LENGTH(n), 1); }
 static void failed(void) { returned = ckpt_failed(TABLE, area, CKPT_FAILED_LENGTH(n), 1); }
+static void grounds(void) { returned = ckpt_grounds(TABLE, area, CKPT_GROUNDS_LENGTH(n), 1); }
 static void resend(void) { returned = ckpt_resend(TABLE, positions, 4 * n, area, CKPT_RESEND_LENGTH(1)); }
 static void audit(void) { returned = ckpt_audit(TABLE, area, CKPT_AUDIT_LENGTH, scratch, CKPT_SCRATCH_LENGTH(n, e)); }
 
-/* The calls in an order in which each is accepted. The failure line takes process 1 back too, resend lists the one message, and the
-   audit follows it from its send to a receipt that forced. */
+/* The calls in an order in which each is accepted. The failure line takes process 1 back too, by the receipt that its ground names,
+   resend lists the one message, and the audit follows it from its send to a receipt that forced. */
 static const struct {
     const char *name;
     void (*call)(void);
     size_t limit;
 } calls[] = {
     {"ckpt_fresh", fresh, 511},     {"ckpt_checkpoint", checkpoint, 511}, {"ckpt_send", send, 511},
-    {"ckpt_receipt", receipt, 511}, {"ckpt_line", line, 511},             {"ckpt_failed", failed, 17 * 1024},
-    {"ckpt_resend", resend, 4095},  {"ckpt_audit", audit, 1023},
+    {"ckpt_receipt", receipt, 511}, {"ckpt_line", line, 511},             {"ckpt_failed", failed, 4095},
+    {"ckpt_grounds", grounds, 4095}, {"ckpt_resend", resend, 4095},       {"ckpt_audit", audit, 1023},
 };
 enum { CALLS = sizeof calls / sizeof calls[0] };
 

@@ -51,6 +51,7 @@ pub static CALLS: &[Sort] = &[
     Sort { name: "receipt", lent: &[TABLE, AREA], rows: &[2, 1, 2, 3, 4, 5, 6, 7, 8, 9] },
     Sort { name: "line", lent: &[TABLE_READ, AREA], rows: &[2, 1, 2, 3, 4] },
     Sort { name: "failed", lent: &[TABLE_READ, AREA], rows: &[2, 1, 2, 3, 4, 11] },
+    Sort { name: "grounds", lent: &[TABLE_READ, AREA], rows: &[2, 1, 2, 3, 4, 11] },
     Sort { name: "resend", lent: &[TABLE_READ, AREA, POSITIONS], rows: &[2, 1, 2, 3, 12, 13] },
     Sort { name: "audit", lent: &[TABLE_READ, AREA, SCRATCH], rows: &[2, 1, 2, 3, 4, 14] },
 ];
@@ -75,6 +76,7 @@ pub enum Call {
     Receipt { p: u32, q: u32, k: u32 },
     Line { number: u32 },
     Failed { mask: u32 },
+    Grounds { mask: u32 },
     Resend,
     Audit,
 }
@@ -89,6 +91,7 @@ impl Call {
             Call::Receipt { p, q, k } => ("receipt", [Some(p), Some(q), Some(k)]),
             Call::Line { number } => ("line", [Some(number), None, None]),
             Call::Failed { mask } => ("failed", [Some(mask), None, None]),
+            Call::Grounds { mask } => ("grounds", [Some(mask), None, None]),
             Call::Resend => ("resend", [None; 3]),
             Call::Audit => ("audit", [None; 3]),
         }
@@ -119,6 +122,7 @@ impl Call {
             Call::Receipt { .. } => 16,
             Call::Line { .. } => 4 * n as usize,
             Call::Failed { .. } => 4 * n as usize + 8,
+            Call::Grounds { .. } => 8 * n as usize,
         }
     }
 
@@ -128,7 +132,7 @@ impl Call {
     }
 
     /// The call as a line of the text program has it, without the line's end. It has no word for
-    /// resend and the audit.
+    /// grounds, resend and the audit.
     pub fn text(self) -> String {
         let (name, numbers) = self.parts();
         let [a, b, c] = numbers.map(|number| number.map_or_else(String::new, |number| number.to_string()));
@@ -145,6 +149,7 @@ pub fn on_reference(call: Call, lent: &mut [&mut [u8]]) -> u32 {
         (Call::Receipt { p, q, k }, [table, area]) => reference::receipt(table, area, p, q, k),
         (Call::Line { number }, [table, area]) => reference::line(table, area, number),
         (Call::Failed { mask }, [table, area]) => reference::failed(table, area, mask),
+        (Call::Grounds { mask }, [table, area]) => reference::grounds(table, area, mask),
         (Call::Resend, [table, area, positions]) => reference::resend(table, positions, area),
         (Call::Audit, [table, area, scratch]) => reference::audit(table, area, scratch),
         (_, lent) => panic!("{call:?} with {} lent areas", lent.len()),

@@ -6,12 +6,13 @@ use crate::table::{
 use crate::Call;
 
 /// One call of each kind but fresh.
-pub const ONE_OF_EACH: [Call; 7] = [
+pub const ONE_OF_EACH: [Call; 8] = [
     Call::Checkpoint { p: 0 },
     Call::Send { p: 0, q: 1 },
     Call::Receipt { p: 0, q: 1, k: 1 },
     Call::Line { number: 0 },
     Call::Failed { mask: 0 },
+    Call::Grounds { mask: 0 },
     Call::Resend,
     Call::Audit,
 ];

@@ -41,6 +41,13 @@ mod c {
             area_len: usize,
             mask: u32,
         ) -> u32;
+        pub fn ckpt_grounds(
+            table: *const u8,
+            table_len: usize,
+            area: *mut u8,
+            area_len: usize,
+            mask: u32,
+        ) -> u32;
         pub fn ckpt_resend(
             table: *const u8,
             table_len: usize,
@@ -85,6 +92,10 @@ pub fn line(table: &[u8], area: &mut [u8], number: u32) -> u32 {
 
 pub fn failed(table: &[u8], area: &mut [u8], mask: u32) -> u32 {
     unsafe { c::ckpt_failed(table.as_ptr(), table.len(), area.as_mut_ptr(), area.len(), mask) }
+}
+
+pub fn grounds(table: &[u8], area: &mut [u8], mask: u32) -> u32 {
+    unsafe { c::ckpt_grounds(table.as_ptr(), table.len(), area.as_mut_ptr(), area.len(), mask) }
 }
 
 pub fn resend(table: &[u8], positions: &[u8], area: &mut [u8]) -> u32 {
