@@ -3,6 +3,7 @@ use Rattle.std.specs.Prelude.{◌≡◌, cond, List, [], ◌∷◌, ◌++◌, ma
 use Rattle.xdr.specs.Words.{bytes}
 use Rattle.rules.specs.Calls.{Outcome, outcome_with, outcome, fresh_on, step_on, line_on, failed_on}
 use Rattle.rules.specs.Text.{Ask, fresh, step, line, failed}
+use Rattle.rules.specs.Grounds.{grounds_on}
 use Rattle.rules.specs.Resend.{resend_on}
 use Rattle.rules.specs.Audit.{audit_on}
 
@@ -15,11 +16,12 @@ answered t a (failed mask) = failed_on t a mask
 
 -- A call with the length of its lent area, and what another engine did: it refused, returning a number, or it accepted, answering
 -- these words and leaving this table. Resend is given its positions as words, and bytes after them where they aren't whole words; it
--- has no answer where it is refused, and whatever the answer leaves of the area stays. The audit is given the length of a scratch
--- besides.
+-- has no answer where it is refused, and whatever the answer leaves of the area stays. Grounds are asked of a mask. The audit is given
+-- the length of a scratch besides.
 pub data Step : Type 0 where
   refused : Ask → (length : ℕ) → (number : ℕ) → Step
   accepted : Ask → (length : ℕ) → (answer : List ℕ) → (after : List ℕ) → Step
+  grounded : (mask : ℕ) → (length : ℕ) → (number : ℕ) → (answer : List ℕ) → Step
   resend : (positions : List ℕ) → (rest : List ℕ) → (length : ℕ) → (number : ℕ) → (answer : List ℕ) → Step
   audit : (length : ℕ) → (scratch : ℕ) → (number : ℕ) → (answer : List ℕ) → Step
 
@@ -38,6 +40,7 @@ abbrev pub given_on : List ℕ → List Step → List Outcome
 given_on t [] = []
 given_on t (refused ask m r ∷ l) = answered t (lent m) ask ∷ given_on t l
 given_on t (accepted ask m ws t' ∷ l) = answered t (lent m) ask ∷ given_on t' l
+given_on t (grounded mask m r ws ∷ l) = grounds_on t (lent m) mask ∷ given_on t l
 given_on t (resend ps bs m r ws ∷ l) = resend_on t (bytes ps ++ bs) (lent m) ∷ given_on t l
 given_on t (audit m s r ws ∷ l) = audit_on t (lent m) (lent s) [] ∷ given_on t l
 
@@ -49,6 +52,7 @@ abbrev pub stated_on : List ℕ → List Step → List Outcome
 stated_on t [] = []
 stated_on t (refused ask m r ∷ l) = outcome r t (lent m) ∷ stated_on t l
 stated_on t (accepted ask m ws t' ∷ l) = outcome 0 t' (bytes ws) ∷ stated_on t' l
+stated_on t (grounded mask m r ws ∷ l) = outcome r t (bytes ws ++ lent (m - 4 * length ws)) ∷ stated_on t l
 stated_on t (resend ps bs m r ws ∷ l) = outcome_with r t (bytes ws ++ lent (m - 4 * length ws)) (bytes ps ++ bs) ∷ stated_on t l
 stated_on t (audit m s r ws ∷ l) = outcome_with r t (bytes ws ++ lent (m - 4 * length ws)) (cond (eqb r 0) [] (lent s)) ∷ stated_on t l
 

@@ -8,10 +8,11 @@ use Rattle.rules.specs.Steps.{checkpoint, send, receipt}
 use Rattle.rules.specs.FailureLine.{round, rounds, failure_line}
 use Rattle.rules.specs.Calls.{failure_answer, fresh_on, step_on, line_on, failed_on}
 use Rattle.rules.specs.Text.{fresh, step, line, failed}
+use Rattle.rules.specs.Grounds.{grounds, grounds_on}
 use Rattle.rules.specs.Resend.{in_transit, resend_on}
 use Rattle.rules.specs.Lists.{check}
 use Rattle.rules.specs.Audit.{advance, sweep, sweeps, replayed, audited, audit_on}
-use Rattle.vectors.specs.Try.{Script, script, refused, accepted, resend, audit, lent, Agree}
+use Rattle.vectors.specs.Try.{Script, script, refused, accepted, grounded, resend, audit, lent, Agree}
 
 abbrev table0 : List ℕ
 table0 = bytes (3 ∷ 6 ∷ 0 ∷ 0 ∷ 0 ∷ 0 ∷ 0 ∷ 0 ∷ 0 ∷ 0 ∷ 0 ∷ 0 ∷ 0 ∷ 0 ∷ 0 ∷ 0 ∷ 0 ∷ 0 ∷ 0 ∷ 0 ∷ 0 ∷ 0 ∷ 0 ∷ 0 ∷ 0 ∷ 0 ∷ 0 ∷ 0 ∷ 0 ∷ 0 ∷ 0 ∷ 0 ∷ 0 ∷ 0 ∷ 0 ∷ 0
@@ -1848,3 +1849,165 @@ audit_unmade = script table191 (audit 4 96 0 (0 ∷ []) ∷ []) ∷ script table
 pub audit_unmade_agree : Agree audit_unmade
 unfolding audit_on audited replayed sweeps sweep advance check layout decoded well_laid word put_word put_words
 audit_unmade_agree = refl
+
+-- The grounds of the worked controller's failure lines, of a fresh table's and of one with a checkpoint.
+abbrev grounds_worked : List Script
+grounds_worked = script table7 (grounded 0 24 0 (0 ∷ 0 ∷ 0 ∷ 0 ∷ 0 ∷ 0 ∷ []) ∷ grounded 1 24 0 (1 ∷ 0 ∷ 2 ∷ 3 ∷ 2 ∷ 2 ∷ [])
+    ∷ grounded 2 24 0 (0 ∷ 0 ∷ 1 ∷ 0 ∷ 2 ∷ 2 ∷ []) ∷ grounded 3 24 0 (1 ∷ 0 ∷ 1 ∷ 0 ∷ 2 ∷ 2 ∷ []) ∷ grounded 4 24 0 (0 ∷ 0 ∷ 0 ∷ 0 ∷ 1 ∷ 0 ∷ [])
+    ∷ grounded 5 24 0 (1 ∷ 0 ∷ 2 ∷ 3 ∷ 1 ∷ 0 ∷ []) ∷ grounded 6 24 0 (0 ∷ 0 ∷ 1 ∷ 0 ∷ 1 ∷ 0 ∷ []) ∷ grounded 7 24 0 (1 ∷ 0 ∷ 1 ∷ 0 ∷ 1 ∷ 0 ∷ [])
+    ∷ grounded 8 24 11 [] ∷ grounded 1 23 4 [] ∷ grounded 1 25 4 [] ∷ []) ∷ script table14 (grounded 0 16 0 (0 ∷ 0 ∷ 0 ∷ 0 ∷ [])
+    ∷ grounded 1 16 0 (1 ∷ 0 ∷ 0 ∷ 0 ∷ []) ∷ grounded 2 16 0 (0 ∷ 0 ∷ 1 ∷ 0 ∷ []) ∷ grounded 3 16 0 (1 ∷ 0 ∷ 1 ∷ 0 ∷ []) ∷ grounded 4 16 11 []
+    ∷ grounded 1 15 4 [] ∷ grounded 1 17 4 [] ∷ []) ∷ script table227 (grounded 0 16 0 (0 ∷ 0 ∷ 0 ∷ 0 ∷ []) ∷ grounded 1 16 0 (1 ∷ 0 ∷ 0 ∷ 0 ∷ [])
+    ∷ grounded 2 16 0 (0 ∷ 0 ∷ 1 ∷ 0 ∷ []) ∷ grounded 3 16 0 (1 ∷ 0 ∷ 1 ∷ 0 ∷ []) ∷ grounded 4 16 11 [] ∷ grounded 1 15 4 [] ∷ grounded 1 17 4 [] ∷ []) ∷ []
+
+pub grounds_worked_agree : Agree grounds_worked
+unfolding grounds_on grounds layout decoded well_laid word put_word put_words failure_line rounds round
+grounds_worked_agree = refl
+
+abbrev table243 : List ℕ
+table243 = bytes (17 ∷ 2 ∷ 2 ∷ 1 ∷ 1 ∷ 1 ∷ 1 ∷ 0 ∷ 0 ∷ 3 ∷ 1 ∷ 1 ∷ 1 ∷ 2 ∷ 0 ∷ 0 ∷ 4 ∷ 0 ∷ 1 ∷ 0 ∷ 0 ∷ 0 ∷ 0 ∷ [])
+    ++ (0 ∷ 0 ∷ 0 ∷ [])
+
+abbrev table244 : List ℕ
+table244 = bytes (2 ∷ 2 ∷ 2 ∷ 1 ∷ 1 ∷ 1 ∷ 1 ∷ 0 ∷ 0 ∷ 3 ∷ 1 ∷ 1 ∷ 1 ∷ 2 ∷ 0 ∷ 0 ∷ 4 ∷ 0 ∷ 1 ∷ 0 ∷ 0 ∷ 0 ∷ 0 ∷ [])
+    ++ (0 ∷ 0 ∷ 0 ∷ [])
+
+-- The rows of grounds, in order.
+abbrev grounds_rows : List Script
+grounds_rows = script table228 (grounded 0 16 2 [] ∷ grounded 4294967295 16 2 [] ∷ grounded 0 15 2 [] ∷ grounded 4294967295 15 2 [] ∷ [])
+    ∷ script table243 (grounded 0 16 1 [] ∷ grounded 4294967295 16 1 [] ∷ grounded 0 15 1 [] ∷ grounded 4294967295 15 1 [] ∷ [])
+    ∷ script table244 (grounded 0 16 2 [] ∷ grounded 4294967295 16 2 [] ∷ grounded 0 15 2 [] ∷ grounded 4294967295 15 2 [] ∷ [])
+    ∷ script table34 (grounded 0 16 3 [] ∷ grounded 4294967295 16 3 [] ∷ grounded 0 15 3 [] ∷ grounded 4294967295 15 3 [] ∷ [])
+    ∷ script table72 (grounded 0 0 4 [] ∷ grounded 4 0 4 [] ∷ grounded 4294967295 0 4 [] ∷ grounded 0 4 4 [] ∷ grounded 4 4 4 [] ∷ grounded 4294967295 4 4 []
+    ∷ grounded 0 8 4 [] ∷ grounded 4 8 4 [] ∷ grounded 4294967295 8 4 [] ∷ grounded 0 15 4 [] ∷ grounded 4 15 4 [] ∷ grounded 4294967295 15 4 []
+    ∷ grounded 0 17 4 [] ∷ grounded 4 17 4 [] ∷ grounded 4294967295 17 4 [] ∷ grounded 0 20 4 [] ∷ grounded 4 20 4 [] ∷ grounded 4294967295 20 4 []
+    ∷ grounded 0 24 4 [] ∷ grounded 4 24 4 [] ∷ grounded 4294967295 24 4 [] ∷ grounded 0 96 4 [] ∷ grounded 4 96 4 [] ∷ grounded 4294967295 96 4 [] ∷ [])
+    ∷ script table72 (grounded 4 16 11 [] ∷ grounded 5 16 11 [] ∷ grounded 7 16 11 [] ∷ grounded 65536 16 11 [] ∷ grounded 2147483648 16 11 []
+    ∷ grounded 4294967295 16 11 [] ∷ []) ∷ script table72 (grounded 0 16 0 (0 ∷ 0 ∷ 0 ∷ 0 ∷ []) ∷ grounded 1 16 0 (1 ∷ 0 ∷ 2 ∷ 1 ∷ [])
+    ∷ grounded 2 16 0 (0 ∷ 0 ∷ 1 ∷ 0 ∷ []) ∷ grounded 3 16 0 (1 ∷ 0 ∷ 1 ∷ 0 ∷ []) ∷ []) ∷ []
+
+pub grounds_rows_agree : Agree grounds_rows
+unfolding grounds_on grounds layout decoded well_laid word put_word put_words failure_line rounds round
+grounds_rows_agree = refl
+
+abbrev table245 : List ℕ
+table245 = bytes (3 ∷ 4 ∷ 1 ∷ 0 ∷ 1 ∷ 3 ∷ 2 ∷ 1 ∷ 0 ∷ 0 ∷ 0 ∷ 0 ∷ 0 ∷ 0 ∷ 0 ∷ 0 ∷ 0 ∷ 0 ∷ 0 ∷ 0 ∷ 0 ∷ 2 ∷ 0 ∷ 0 ∷ 4 ∷ 0 ∷ 1 ∷ 0 ∷ 4 ∷ 0 ∷ 2 ∷ 0 ∷ 0 ∷ 0 ∷ 0
+    ∷ 0 ∷ 0 ∷ 0 ∷ 0 ∷ 0 ∷ 0 ∷ 0 ∷ 0 ∷ 0 ∷ 0 ∷ 0 ∷ 0 ∷ 0 ∷ 0 ∷ 0 ∷ 0 ∷ 0 ∷ 0 ∷ 0 ∷ 0 ∷ 0 ∷ 0 ∷ 0 ∷ 0 ∷ [])
+
+abbrev table246 : List ℕ
+table246 = bytes (2 ∷ 4 ∷ 2 ∷ 0 ∷ 0 ∷ 4 ∷ 1 ∷ 1 ∷ 0 ∷ 4 ∷ 1 ∷ 2 ∷ 0 ∷ 0 ∷ 0 ∷ 0 ∷ 0 ∷ 0 ∷ 0 ∷ 0 ∷ 0 ∷ 2 ∷ 0 ∷ 2 ∷ 3 ∷ 0 ∷ 1 ∷ 0 ∷ 3 ∷ 0 ∷ 2 ∷ 0 ∷ 0 ∷ 0 ∷ 0
+    ∷ 0 ∷ 0 ∷ 0 ∷ 0 ∷ 0 ∷ [])
+
+abbrev table247 : List ℕ
+table247 = bytes (2 ∷ 4 ∷ 3 ∷ 1 ∷ 2 ∷ 3 ∷ 1 ∷ 1 ∷ 0 ∷ 1 ∷ 1 ∷ 0 ∷ 0 ∷ 3 ∷ 1 ∷ 2 ∷ 1 ∷ 0 ∷ 0 ∷ 0 ∷ 0 ∷ 3 ∷ 1 ∷ 0 ∷ 4 ∷ 0 ∷ 1 ∷ 0 ∷ 4 ∷ 0 ∷ 2 ∷ 0 ∷ 1 ∷ 1 ∷ 0
+    ∷ 0 ∷ 0 ∷ 0 ∷ 0 ∷ 0 ∷ [])
+
+abbrev table248 : List ℕ
+table248 = bytes (2 ∷ 4 ∷ 3 ∷ 1 ∷ 2 ∷ 1 ∷ 1 ∷ 0 ∷ 0 ∷ 3 ∷ 1 ∷ 1 ∷ 1 ∷ 3 ∷ 1 ∷ 2 ∷ 1 ∷ 0 ∷ 0 ∷ 0 ∷ 0 ∷ 4 ∷ 2 ∷ 0 ∷ 1 ∷ 1 ∷ 0 ∷ 0 ∷ 4 ∷ 0 ∷ 2 ∷ 0 ∷ 1 ∷ 2 ∷ 0
+    ∷ 0 ∷ 4 ∷ 0 ∷ 1 ∷ 0 ∷ [])
+
+abbrev table249 : List ℕ
+table249 = bytes (3 ∷ 4 ∷ 2 ∷ 1 ∷ 1 ∷ 1 ∷ 1 ∷ 0 ∷ 0 ∷ 3 ∷ 1 ∷ 1 ∷ 1 ∷ 0 ∷ 0 ∷ 0 ∷ 0 ∷ 0 ∷ 0 ∷ 0 ∷ 0 ∷ 4 ∷ 2 ∷ 1 ∷ 1 ∷ 1 ∷ 0 ∷ 0 ∷ 4 ∷ 0 ∷ 1 ∷ 1 ∷ 1 ∷ 2 ∷ 0
+    ∷ 0 ∷ 3 ∷ 2 ∷ 1 ∷ 2 ∷ 4 ∷ 3 ∷ 0 ∷ 1 ∷ 2 ∷ 0 ∷ 0 ∷ 4 ∷ 1 ∷ 1 ∷ 2 ∷ 1 ∷ 3 ∷ 0 ∷ 0 ∷ 4 ∷ 1 ∷ 1 ∷ 2 ∷ [])
+
+-- Grounds where receipts lack their send, repeat, or stand behind what goes.
+abbrev grounds_stray : List Script
+grounds_stray = script table245 (grounded 0 24 0 (0 ∷ 0 ∷ 2 ∷ 1 ∷ 0 ∷ 0 ∷ []) ∷ grounded 1 24 0 (1 ∷ 0 ∷ 2 ∷ 1 ∷ 0 ∷ 0 ∷ [])
+    ∷ grounded 2 24 0 (0 ∷ 0 ∷ 1 ∷ 0 ∷ 0 ∷ 0 ∷ []) ∷ grounded 3 24 0 (1 ∷ 0 ∷ 1 ∷ 0 ∷ 0 ∷ 0 ∷ []) ∷ grounded 4 24 0 (0 ∷ 0 ∷ 2 ∷ 1 ∷ 1 ∷ 0 ∷ [])
+    ∷ grounded 5 24 0 (1 ∷ 0 ∷ 2 ∷ 1 ∷ 1 ∷ 0 ∷ []) ∷ grounded 6 24 0 (0 ∷ 0 ∷ 1 ∷ 0 ∷ 1 ∷ 0 ∷ []) ∷ grounded 7 24 0 (1 ∷ 0 ∷ 1 ∷ 0 ∷ 1 ∷ 0 ∷ [])
+    ∷ grounded 8 24 11 [] ∷ grounded 1 23 4 [] ∷ grounded 1 25 4 [] ∷ []) ∷ script table246 (grounded 0 16 0 (0 ∷ 0 ∷ 0 ∷ 0 ∷ [])
+    ∷ grounded 1 16 0 (1 ∷ 0 ∷ 0 ∷ 0 ∷ []) ∷ grounded 2 16 0 (2 ∷ 1 ∷ 1 ∷ 0 ∷ []) ∷ grounded 3 16 0 (1 ∷ 0 ∷ 1 ∷ 0 ∷ []) ∷ grounded 4 16 11 []
+    ∷ grounded 1 15 4 [] ∷ grounded 1 17 4 [] ∷ []) ∷ script table247 (grounded 0 16 0 (0 ∷ 0 ∷ 0 ∷ 0 ∷ []) ∷ grounded 1 16 0 (1 ∷ 0 ∷ 2 ∷ 2 ∷ [])
+    ∷ grounded 2 16 0 (0 ∷ 0 ∷ 1 ∷ 0 ∷ []) ∷ grounded 3 16 0 (1 ∷ 0 ∷ 2 ∷ 2 ∷ []) ∷ grounded 4 16 11 [] ∷ grounded 1 15 4 [] ∷ grounded 1 17 4 [] ∷ [])
+    ∷ script table248 (grounded 0 16 0 (0 ∷ 0 ∷ 0 ∷ 0 ∷ []) ∷ grounded 1 16 0 (1 ∷ 0 ∷ 2 ∷ 2 ∷ []) ∷ grounded 2 16 0 (0 ∷ 0 ∷ 1 ∷ 0 ∷ [])
+    ∷ grounded 3 16 0 (1 ∷ 0 ∷ 2 ∷ 2 ∷ []) ∷ grounded 4 16 11 [] ∷ grounded 1 15 4 [] ∷ grounded 1 17 4 [] ∷ [])
+    ∷ script table249 (grounded 0 24 0 (0 ∷ 0 ∷ 0 ∷ 0 ∷ 0 ∷ 0 ∷ []) ∷ grounded 1 24 0 (1 ∷ 0 ∷ 2 ∷ 2 ∷ 2 ∷ 2 ∷ [])
+    ∷ grounded 2 24 0 (0 ∷ 0 ∷ 1 ∷ 0 ∷ 2 ∷ 2 ∷ []) ∷ grounded 3 24 0 (1 ∷ 0 ∷ 2 ∷ 2 ∷ 2 ∷ 2 ∷ []) ∷ grounded 4 24 0 (0 ∷ 0 ∷ 0 ∷ 0 ∷ 1 ∷ 0 ∷ [])
+    ∷ grounded 5 24 0 (1 ∷ 0 ∷ 2 ∷ 2 ∷ 2 ∷ 2 ∷ []) ∷ grounded 6 24 0 (0 ∷ 0 ∷ 1 ∷ 0 ∷ 2 ∷ 2 ∷ []) ∷ grounded 7 24 0 (1 ∷ 0 ∷ 2 ∷ 2 ∷ 2 ∷ 2 ∷ [])
+    ∷ grounded 8 24 11 [] ∷ grounded 1 23 4 [] ∷ grounded 1 25 4 [] ∷ []) ∷ script table226 (grounded 0 24 0 (2 ∷ 4 ∷ 2 ∷ 1 ∷ 2 ∷ 1 ∷ [])
+    ∷ grounded 1 24 0 (1 ∷ 0 ∷ 2 ∷ 1 ∷ 2 ∷ 1 ∷ []) ∷ grounded 2 24 0 (2 ∷ 4 ∷ 1 ∷ 0 ∷ 2 ∷ 1 ∷ []) ∷ grounded 3 24 0 (1 ∷ 0 ∷ 1 ∷ 0 ∷ 2 ∷ 1 ∷ [])
+    ∷ grounded 4 24 0 (2 ∷ 4 ∷ 2 ∷ 1 ∷ 1 ∷ 0 ∷ []) ∷ grounded 5 24 0 (1 ∷ 0 ∷ 2 ∷ 1 ∷ 1 ∷ 0 ∷ []) ∷ grounded 6 24 0 (2 ∷ 4 ∷ 1 ∷ 0 ∷ 1 ∷ 0 ∷ [])
+    ∷ grounded 7 24 0 (1 ∷ 0 ∷ 1 ∷ 0 ∷ 1 ∷ 0 ∷ []) ∷ grounded 8 24 11 [] ∷ grounded 1 23 4 [] ∷ grounded 1 25 4 [] ∷ [])
+    ∷ script table73 (grounded 0 24 0 (2 ∷ 3 ∷ 0 ∷ 0 ∷ 0 ∷ 0 ∷ []) ∷ grounded 1 24 0 (1 ∷ 0 ∷ 0 ∷ 0 ∷ 0 ∷ 0 ∷ [])
+    ∷ grounded 2 24 0 (2 ∷ 3 ∷ 1 ∷ 0 ∷ 0 ∷ 0 ∷ []) ∷ grounded 3 24 0 (1 ∷ 0 ∷ 1 ∷ 0 ∷ 0 ∷ 0 ∷ []) ∷ grounded 4 24 0 (2 ∷ 3 ∷ 0 ∷ 0 ∷ 1 ∷ 0 ∷ [])
+    ∷ grounded 5 24 0 (1 ∷ 0 ∷ 0 ∷ 0 ∷ 1 ∷ 0 ∷ []) ∷ grounded 6 24 0 (2 ∷ 3 ∷ 1 ∷ 0 ∷ 1 ∷ 0 ∷ []) ∷ grounded 7 24 0 (1 ∷ 0 ∷ 1 ∷ 0 ∷ 1 ∷ 0 ∷ [])
+    ∷ grounded 8 24 11 [] ∷ grounded 1 23 4 [] ∷ grounded 1 25 4 [] ∷ []) ∷ script table105 (grounded 0 16 0 (0 ∷ 0 ∷ 0 ∷ 0 ∷ [])
+    ∷ grounded 1 16 0 (2 ∷ 2 ∷ 2 ∷ 1 ∷ []) ∷ grounded 2 16 0 (2 ∷ 2 ∷ 2 ∷ 1 ∷ []) ∷ grounded 3 16 0 (2 ∷ 2 ∷ 2 ∷ 1 ∷ []) ∷ grounded 4 16 11 []
+    ∷ grounded 1 15 4 [] ∷ grounded 1 17 4 [] ∷ []) ∷ []
+
+pub grounds_stray_agree : Agree grounds_stray
+unfolding grounds_on grounds layout decoded well_laid word put_word put_words failure_line rounds round
+grounds_stray_agree = refl
+
+-- Grounds on the tables that the runs left.
+abbrev grounds_made : List Script
+grounds_made = script table107 (grounded 0 8 0 (0 ∷ 0 ∷ []) ∷ grounded 1 8 0 (1 ∷ 0 ∷ []) ∷ grounded 2 8 11 [] ∷ grounded 1 7 4 [] ∷ grounded 1 9 4 [] ∷ [])
+    ∷ script table109 (grounded 0 8 0 (0 ∷ 0 ∷ []) ∷ grounded 1 8 0 (1 ∷ 0 ∷ []) ∷ grounded 2 8 11 [] ∷ grounded 1 7 4 [] ∷ grounded 1 9 4 [] ∷ [])
+    ∷ script table112 (grounded 0 16 0 (0 ∷ 0 ∷ 0 ∷ 0 ∷ []) ∷ grounded 1 16 0 (1 ∷ 0 ∷ 2 ∷ 1 ∷ []) ∷ grounded 2 16 0 (0 ∷ 0 ∷ 1 ∷ 0 ∷ [])
+    ∷ grounded 3 16 0 (1 ∷ 0 ∷ 1 ∷ 0 ∷ []) ∷ grounded 4 16 11 [] ∷ grounded 1 15 4 [] ∷ grounded 1 17 4 [] ∷ [])
+    ∷ script table119 (grounded 0 16 0 (0 ∷ 0 ∷ 0 ∷ 0 ∷ []) ∷ grounded 1 16 0 (1 ∷ 0 ∷ 2 ∷ 1 ∷ []) ∷ grounded 2 16 0 (0 ∷ 0 ∷ 1 ∷ 0 ∷ [])
+    ∷ grounded 3 16 0 (1 ∷ 0 ∷ 1 ∷ 0 ∷ []) ∷ grounded 4 16 11 [] ∷ grounded 1 15 4 [] ∷ grounded 1 17 4 [] ∷ [])
+    ∷ script table127 (grounded 0 16 0 (0 ∷ 0 ∷ 0 ∷ 0 ∷ []) ∷ grounded 1 16 0 (1 ∷ 0 ∷ 2 ∷ 1 ∷ []) ∷ grounded 2 16 0 (0 ∷ 0 ∷ 1 ∷ 0 ∷ [])
+    ∷ grounded 3 16 0 (1 ∷ 0 ∷ 1 ∷ 0 ∷ []) ∷ grounded 4 16 11 [] ∷ grounded 1 15 4 [] ∷ grounded 1 17 4 [] ∷ [])
+    ∷ script table140 (grounded 0 16 0 (0 ∷ 0 ∷ 0 ∷ 0 ∷ []) ∷ grounded 1 16 0 (1 ∷ 0 ∷ 2 ∷ 5 ∷ []) ∷ grounded 2 16 0 (2 ∷ 6 ∷ 1 ∷ 0 ∷ [])
+    ∷ grounded 3 16 0 (1 ∷ 0 ∷ 1 ∷ 0 ∷ []) ∷ grounded 4 16 11 [] ∷ grounded 1 15 4 [] ∷ grounded 1 17 4 [] ∷ [])
+    ∷ script table147 (grounded 0 24 0 (0 ∷ 0 ∷ 0 ∷ 0 ∷ 0 ∷ 0 ∷ []) ∷ grounded 1 24 0 (1 ∷ 0 ∷ 0 ∷ 0 ∷ 0 ∷ 0 ∷ [])
+    ∷ grounded 2 24 0 (0 ∷ 0 ∷ 1 ∷ 0 ∷ 0 ∷ 0 ∷ []) ∷ grounded 3 24 0 (1 ∷ 0 ∷ 1 ∷ 0 ∷ 0 ∷ 0 ∷ []) ∷ grounded 4 24 0 (0 ∷ 0 ∷ 0 ∷ 0 ∷ 1 ∷ 0 ∷ [])
+    ∷ grounded 5 24 0 (1 ∷ 0 ∷ 0 ∷ 0 ∷ 1 ∷ 0 ∷ []) ∷ grounded 6 24 0 (0 ∷ 0 ∷ 1 ∷ 0 ∷ 1 ∷ 0 ∷ []) ∷ grounded 7 24 0 (1 ∷ 0 ∷ 1 ∷ 0 ∷ 1 ∷ 0 ∷ [])
+    ∷ grounded 8 24 11 [] ∷ grounded 1 23 4 [] ∷ grounded 1 25 4 [] ∷ []) ∷ script table155 (grounded 0 24 0 (0 ∷ 0 ∷ 0 ∷ 0 ∷ 0 ∷ 0 ∷ [])
+    ∷ grounded 1 24 0 (1 ∷ 0 ∷ 0 ∷ 0 ∷ 0 ∷ 0 ∷ []) ∷ grounded 2 24 0 (0 ∷ 0 ∷ 1 ∷ 0 ∷ 0 ∷ 0 ∷ []) ∷ grounded 3 24 0 (1 ∷ 0 ∷ 1 ∷ 0 ∷ 0 ∷ 0 ∷ [])
+    ∷ grounded 4 24 0 (0 ∷ 0 ∷ 0 ∷ 0 ∷ 1 ∷ 0 ∷ []) ∷ grounded 5 24 0 (1 ∷ 0 ∷ 0 ∷ 0 ∷ 1 ∷ 0 ∷ []) ∷ grounded 6 24 0 (0 ∷ 0 ∷ 1 ∷ 0 ∷ 1 ∷ 0 ∷ [])
+    ∷ grounded 7 24 0 (1 ∷ 0 ∷ 1 ∷ 0 ∷ 1 ∷ 0 ∷ []) ∷ grounded 8 24 11 [] ∷ grounded 1 23 4 [] ∷ grounded 1 25 4 [] ∷ [])
+    ∷ script table168 (grounded 0 24 0 (0 ∷ 0 ∷ 0 ∷ 0 ∷ 0 ∷ 0 ∷ []) ∷ grounded 1 24 0 (1 ∷ 0 ∷ 2 ∷ 4 ∷ 2 ∷ 4 ∷ [])
+    ∷ grounded 2 24 0 (0 ∷ 0 ∷ 1 ∷ 0 ∷ 0 ∷ 0 ∷ []) ∷ grounded 3 24 0 (1 ∷ 0 ∷ 1 ∷ 0 ∷ 2 ∷ 4 ∷ []) ∷ grounded 4 24 0 (0 ∷ 0 ∷ 2 ∷ 4 ∷ 1 ∷ 0 ∷ [])
+    ∷ grounded 5 24 0 (1 ∷ 0 ∷ 2 ∷ 4 ∷ 1 ∷ 0 ∷ []) ∷ grounded 6 24 0 (0 ∷ 0 ∷ 1 ∷ 0 ∷ 1 ∷ 0 ∷ []) ∷ grounded 7 24 0 (1 ∷ 0 ∷ 1 ∷ 0 ∷ 1 ∷ 0 ∷ [])
+    ∷ grounded 8 24 11 [] ∷ grounded 1 23 4 [] ∷ grounded 1 25 4 [] ∷ []) ∷ script table184 (grounded 0 24 0 (0 ∷ 0 ∷ 0 ∷ 0 ∷ 0 ∷ 0 ∷ [])
+    ∷ grounded 1 24 0 (1 ∷ 0 ∷ 0 ∷ 0 ∷ 0 ∷ 0 ∷ []) ∷ grounded 2 24 0 (0 ∷ 0 ∷ 1 ∷ 0 ∷ 0 ∷ 0 ∷ []) ∷ grounded 3 24 0 (1 ∷ 0 ∷ 1 ∷ 0 ∷ 0 ∷ 0 ∷ [])
+    ∷ grounded 4 24 0 (2 ∷ 1 ∷ 0 ∷ 0 ∷ 1 ∷ 0 ∷ []) ∷ grounded 5 24 0 (2 ∷ 1 ∷ 0 ∷ 0 ∷ 1 ∷ 0 ∷ []) ∷ grounded 6 24 0 (2 ∷ 1 ∷ 1 ∷ 0 ∷ 1 ∷ 0 ∷ [])
+    ∷ grounded 7 24 0 (2 ∷ 1 ∷ 1 ∷ 0 ∷ 1 ∷ 0 ∷ []) ∷ grounded 8 24 11 [] ∷ grounded 1 23 4 [] ∷ grounded 1 25 4 [] ∷ []) ∷ []
+
+pub grounds_made_agree : Agree grounds_made
+unfolding grounds_on grounds layout decoded well_laid word put_word put_words failure_line rounds round
+grounds_made_agree = refl
+
+-- Grounds on the well laid tables that no run makes.
+abbrev grounds_unmade : List Script
+grounds_unmade = script table185 (grounded 0 8 0 (0 ∷ 0 ∷ []) ∷ grounded 1 8 0 (1 ∷ 0 ∷ []) ∷ grounded 2 8 11 [] ∷ grounded 1 7 4 [] ∷ grounded 1 9 4 [] ∷ [])
+    ∷ script table186 (grounded 0 8 0 (0 ∷ 0 ∷ []) ∷ grounded 1 8 0 (1 ∷ 0 ∷ []) ∷ grounded 2 8 11 [] ∷ grounded 1 7 4 [] ∷ grounded 1 9 4 [] ∷ [])
+    ∷ script table189 (grounded 0 16 0 (0 ∷ 0 ∷ 0 ∷ 0 ∷ []) ∷ grounded 1 16 0 (1 ∷ 0 ∷ 0 ∷ 0 ∷ []) ∷ grounded 2 16 0 (0 ∷ 0 ∷ 1 ∷ 0 ∷ [])
+    ∷ grounded 3 16 0 (1 ∷ 0 ∷ 1 ∷ 0 ∷ []) ∷ grounded 4 16 11 [] ∷ grounded 1 15 4 [] ∷ grounded 1 17 4 [] ∷ [])
+    ∷ script table191 (grounded 0 16 0 (2 ∷ 2 ∷ 0 ∷ 0 ∷ []) ∷ grounded 1 16 0 (1 ∷ 0 ∷ 0 ∷ 0 ∷ []) ∷ grounded 2 16 0 (2 ∷ 2 ∷ 1 ∷ 0 ∷ [])
+    ∷ grounded 3 16 0 (1 ∷ 0 ∷ 1 ∷ 0 ∷ []) ∷ grounded 4 16 11 [] ∷ grounded 1 15 4 [] ∷ grounded 1 17 4 [] ∷ [])
+    ∷ script table193 (grounded 0 16 0 (2 ∷ 1 ∷ 2 ∷ 2 ∷ []) ∷ grounded 1 16 0 (2 ∷ 1 ∷ 2 ∷ 2 ∷ []) ∷ grounded 2 16 0 (2 ∷ 1 ∷ 1 ∷ 0 ∷ [])
+    ∷ grounded 3 16 0 (2 ∷ 1 ∷ 1 ∷ 0 ∷ []) ∷ grounded 4 16 11 [] ∷ grounded 1 15 4 [] ∷ grounded 1 17 4 [] ∷ [])
+    ∷ script table195 (grounded 0 16 0 (0 ∷ 0 ∷ 0 ∷ 0 ∷ []) ∷ grounded 1 16 0 (1 ∷ 0 ∷ 2 ∷ 2 ∷ []) ∷ grounded 2 16 0 (0 ∷ 0 ∷ 1 ∷ 0 ∷ [])
+    ∷ grounded 3 16 0 (1 ∷ 0 ∷ 1 ∷ 0 ∷ []) ∷ grounded 4 16 11 [] ∷ grounded 1 15 4 [] ∷ grounded 1 17 4 [] ∷ [])
+    ∷ script table197 (grounded 0 16 0 (2 ∷ 1 ∷ 0 ∷ 0 ∷ []) ∷ grounded 1 16 0 (2 ∷ 1 ∷ 0 ∷ 0 ∷ []) ∷ grounded 2 16 0 (2 ∷ 1 ∷ 1 ∷ 0 ∷ [])
+    ∷ grounded 3 16 0 (2 ∷ 1 ∷ 1 ∷ 0 ∷ []) ∷ grounded 4 16 11 [] ∷ grounded 1 15 4 [] ∷ grounded 1 17 4 [] ∷ [])
+    ∷ script table200 (grounded 0 16 0 (0 ∷ 0 ∷ 2 ∷ 3 ∷ []) ∷ grounded 1 16 0 (1 ∷ 0 ∷ 2 ∷ 1 ∷ []) ∷ grounded 2 16 0 (0 ∷ 0 ∷ 1 ∷ 0 ∷ [])
+    ∷ grounded 3 16 0 (1 ∷ 0 ∷ 1 ∷ 0 ∷ []) ∷ grounded 4 16 11 [] ∷ grounded 1 15 4 [] ∷ grounded 1 17 4 [] ∷ [])
+    ∷ script table203 (grounded 0 24 0 (0 ∷ 0 ∷ 0 ∷ 0 ∷ 0 ∷ 0 ∷ []) ∷ grounded 1 24 0 (1 ∷ 0 ∷ 0 ∷ 0 ∷ 0 ∷ 0 ∷ [])
+    ∷ grounded 2 24 0 (0 ∷ 0 ∷ 1 ∷ 0 ∷ 0 ∷ 0 ∷ []) ∷ grounded 3 24 0 (1 ∷ 0 ∷ 1 ∷ 0 ∷ 0 ∷ 0 ∷ []) ∷ grounded 4 24 0 (0 ∷ 0 ∷ 0 ∷ 0 ∷ 1 ∷ 0 ∷ [])
+    ∷ grounded 5 24 0 (1 ∷ 0 ∷ 0 ∷ 0 ∷ 1 ∷ 0 ∷ []) ∷ grounded 6 24 0 (0 ∷ 0 ∷ 1 ∷ 0 ∷ 1 ∷ 0 ∷ []) ∷ grounded 7 24 0 (1 ∷ 0 ∷ 1 ∷ 0 ∷ 1 ∷ 0 ∷ [])
+    ∷ grounded 8 24 11 [] ∷ grounded 1 23 4 [] ∷ grounded 1 25 4 [] ∷ []) ∷ script table209 (grounded 0 24 0 (2 ∷ 1 ∷ 0 ∷ 0 ∷ 2 ∷ 2 ∷ [])
+    ∷ grounded 1 24 0 (1 ∷ 0 ∷ 0 ∷ 0 ∷ 2 ∷ 2 ∷ []) ∷ grounded 2 24 0 (2 ∷ 1 ∷ 1 ∷ 0 ∷ 2 ∷ 2 ∷ []) ∷ grounded 3 24 0 (1 ∷ 0 ∷ 1 ∷ 0 ∷ 2 ∷ 2 ∷ [])
+    ∷ grounded 4 24 0 (2 ∷ 1 ∷ 0 ∷ 0 ∷ 2 ∷ 2 ∷ []) ∷ grounded 5 24 0 (1 ∷ 0 ∷ 0 ∷ 0 ∷ 2 ∷ 2 ∷ []) ∷ grounded 6 24 0 (2 ∷ 1 ∷ 1 ∷ 0 ∷ 2 ∷ 2 ∷ [])
+    ∷ grounded 7 24 0 (1 ∷ 0 ∷ 1 ∷ 0 ∷ 2 ∷ 2 ∷ []) ∷ grounded 8 24 11 [] ∷ grounded 1 23 4 [] ∷ grounded 1 25 4 [] ∷ [])
+    ∷ script table211 (grounded 0 24 0 (0 ∷ 0 ∷ 0 ∷ 0 ∷ 2 ∷ 2 ∷ []) ∷ grounded 1 24 0 (1 ∷ 0 ∷ 0 ∷ 0 ∷ 2 ∷ 2 ∷ [])
+    ∷ grounded 2 24 0 (0 ∷ 0 ∷ 1 ∷ 0 ∷ 2 ∷ 2 ∷ []) ∷ grounded 3 24 0 (1 ∷ 0 ∷ 1 ∷ 0 ∷ 2 ∷ 2 ∷ []) ∷ grounded 4 24 0 (0 ∷ 0 ∷ 0 ∷ 0 ∷ 1 ∷ 0 ∷ [])
+    ∷ grounded 5 24 0 (1 ∷ 0 ∷ 0 ∷ 0 ∷ 1 ∷ 0 ∷ []) ∷ grounded 6 24 0 (0 ∷ 0 ∷ 1 ∷ 0 ∷ 1 ∷ 0 ∷ []) ∷ grounded 7 24 0 (1 ∷ 0 ∷ 1 ∷ 0 ∷ 1 ∷ 0 ∷ [])
+    ∷ grounded 8 24 11 [] ∷ grounded 1 23 4 [] ∷ grounded 1 25 4 [] ∷ []) ∷ script table214 (grounded 0 24 0 (0 ∷ 0 ∷ 2 ∷ 2 ∷ 0 ∷ 0 ∷ [])
+    ∷ grounded 1 24 0 (1 ∷ 0 ∷ 2 ∷ 2 ∷ 0 ∷ 0 ∷ []) ∷ grounded 2 24 0 (0 ∷ 0 ∷ 1 ∷ 0 ∷ 0 ∷ 0 ∷ []) ∷ grounded 3 24 0 (1 ∷ 0 ∷ 1 ∷ 0 ∷ 0 ∷ 0 ∷ [])
+    ∷ grounded 4 24 0 (0 ∷ 0 ∷ 2 ∷ 2 ∷ 1 ∷ 0 ∷ []) ∷ grounded 5 24 0 (1 ∷ 0 ∷ 2 ∷ 2 ∷ 1 ∷ 0 ∷ []) ∷ grounded 6 24 0 (0 ∷ 0 ∷ 1 ∷ 0 ∷ 1 ∷ 0 ∷ [])
+    ∷ grounded 7 24 0 (1 ∷ 0 ∷ 1 ∷ 0 ∷ 1 ∷ 0 ∷ []) ∷ grounded 8 24 11 [] ∷ grounded 1 23 4 [] ∷ grounded 1 25 4 [] ∷ [])
+    ∷ script table218 (grounded 0 24 0 (0 ∷ 0 ∷ 2 ∷ 1 ∷ 2 ∷ 1 ∷ []) ∷ grounded 1 24 0 (1 ∷ 0 ∷ 2 ∷ 1 ∷ 2 ∷ 1 ∷ [])
+    ∷ grounded 2 24 0 (0 ∷ 0 ∷ 2 ∷ 1 ∷ 2 ∷ 1 ∷ []) ∷ grounded 3 24 0 (1 ∷ 0 ∷ 2 ∷ 1 ∷ 2 ∷ 1 ∷ []) ∷ grounded 4 24 0 (0 ∷ 0 ∷ 2 ∷ 1 ∷ 2 ∷ 1 ∷ [])
+    ∷ grounded 5 24 0 (1 ∷ 0 ∷ 2 ∷ 1 ∷ 2 ∷ 1 ∷ []) ∷ grounded 6 24 0 (0 ∷ 0 ∷ 2 ∷ 1 ∷ 2 ∷ 1 ∷ []) ∷ grounded 7 24 0 (1 ∷ 0 ∷ 2 ∷ 1 ∷ 2 ∷ 1 ∷ [])
+    ∷ grounded 8 24 11 [] ∷ grounded 1 23 4 [] ∷ grounded 1 25 4 [] ∷ []) ∷ script table219 (grounded 0 24 0 (0 ∷ 0 ∷ 2 ∷ 1 ∷ 2 ∷ 1 ∷ [])
+    ∷ grounded 1 24 0 (1 ∷ 0 ∷ 2 ∷ 1 ∷ 2 ∷ 1 ∷ []) ∷ grounded 2 24 0 (0 ∷ 0 ∷ 2 ∷ 1 ∷ 2 ∷ 1 ∷ []) ∷ grounded 3 24 0 (1 ∷ 0 ∷ 2 ∷ 1 ∷ 2 ∷ 1 ∷ [])
+    ∷ grounded 4 24 0 (0 ∷ 0 ∷ 2 ∷ 1 ∷ 2 ∷ 1 ∷ []) ∷ grounded 5 24 0 (1 ∷ 0 ∷ 2 ∷ 1 ∷ 2 ∷ 1 ∷ []) ∷ grounded 6 24 0 (0 ∷ 0 ∷ 2 ∷ 1 ∷ 2 ∷ 1 ∷ [])
+    ∷ grounded 7 24 0 (1 ∷ 0 ∷ 2 ∷ 1 ∷ 2 ∷ 1 ∷ []) ∷ grounded 8 24 11 [] ∷ grounded 1 23 4 [] ∷ grounded 1 25 4 [] ∷ []) ∷ []
+
+pub grounds_unmade_agree : Agree grounds_unmade
+unfolding grounds_on grounds layout decoded well_laid word put_word put_words failure_line rounds round
+grounds_unmade_agree = refl

@@ -40,14 +40,18 @@ use Rattle.rules.specs.Steps.{checkpoint, send, receipt}
 use Rattle.rules.specs.FailureLine.{round, rounds, failure_line}
 use Rattle.rules.specs.Calls.{failure_answer, fresh_on, step_on, line_on, failed_on}
 use Rattle.rules.specs.Text.{fresh, step, line, failed}
+use Rattle.rules.specs.Grounds.{grounds, grounds_on}
 use Rattle.rules.specs.Resend.{in_transit, resend_on}
 use Rattle.rules.specs.Lists.{check}
 use Rattle.rules.specs.Audit.{advance, sweep, sweeps, replayed, audited, audit_on}
-use Rattle.vectors.specs.Try.{Script, script, refused, accepted, resend, audit, lent, Agree}
+use Rattle.vectors.specs.Try.{Script, script, refused, accepted, grounded, resend, audit, lent, Agree}
 ";
 
 const UNFOLDING: &str =
     "unfolding fresh_on step_on line_on failed_on resend_on layout decoded well_laid word put_word put_words failure_answer failure_line rounds round ones ones_in in_transit";
+
+const GROUNDS_UNFOLDING: &str =
+    "unfolding grounds_on grounds layout decoded well_laid word put_word put_words failure_line rounds round";
 
 const AUDIT_UNFOLDING: &str =
     "unfolding audit_on audited replayed sweeps sweep advance check layout decoded well_laid word put_word put_words";
@@ -117,8 +121,16 @@ impl File {
 
     /// Writes scripts as one list, and the theorem that the rules agree with them.
     fn group(&mut self, name: &str, note: &str, scripts: Vec<Script>) {
-        let audits = scripts.iter().flat_map(|own| &own.steps).all(|step| step.call == Call::Audit);
-        let unfolding = if audits { AUDIT_UNFOLDING } else { UNFOLDING };
+        let each = |wanted: fn(Call) -> bool| {
+            scripts.iter().flat_map(|own| &own.steps).all(|step| wanted(step.call))
+        };
+        let unfolding = if each(|call| call == Call::Audit) {
+            AUDIT_UNFOLDING
+        } else if each(|call| matches!(call, Call::Grounds { .. })) {
+            GROUNDS_UNFOLDING
+        } else {
+            UNFOLDING
+        };
         let mut bodies = Vec::new();
         for own in scripts {
             let start = self.table(&own.start);
@@ -153,6 +165,9 @@ impl Step {
     fn text(&self, file: &mut File) -> String {
         file.met.insert(self.returned);
         let (area, returned, answer) = (self.area, self.returned, argument(&self.answer));
+        if let Call::Grounds { mask } = self.call {
+            return format!("grounded {mask} {area} {returned} {answer}");
+        }
         if self.call == Call::Resend {
             let words = argument(&to_words(&self.further));
             let rest = argument(self.further.chunks_exact(4).remainder());
@@ -179,7 +194,7 @@ fn ask(call: Call) -> String {
         Call::Receipt { p, q, k } => format!("step {p} (receipt {q} {k})"),
         Call::Line { number } => format!("line {number}"),
         Call::Failed { mask } => format!("failed {mask}"),
-        Call::Resend | Call::Audit => unreachable!("a step of its own"),
+        Call::Grounds { .. } | Call::Resend | Call::Audit => unreachable!("a step of its own"),
     }
 }
 
@@ -649,6 +664,95 @@ fn spoiled(rng: &mut Rng, tables: &[Vec<u8>]) -> Vec<Vec<u8>> {
     tables.iter().map(&mut spoil).collect()
 }
 
+/// The grounds for every mask, for one that is too large, and in areas that are too short or too long.
+fn grounds_on(table: &[u8]) -> Script {
+    let mut script = Script::on(table);
+    let (n, exact) = (script.n(), 8 * script.n() as usize);
+    for mask in 0..1 << n {
+        assert_eq!(script.exact(Call::Grounds { mask }), 0);
+    }
+    assert_eq!(script.exact(Call::Grounds { mask: 1 << n }), 11);
+    for length in [exact - 1, exact + 1] {
+        assert_eq!(script.call(Call::Grounds { mask: 1 }, length), 4);
+    }
+    script
+}
+
+/// Document 02's words for slip 7: the worked controller, then n = 2 fresh and after a checkpoint at 0.
+fn worked_grounds() -> Vec<Script> {
+    let worked = grounds_on(&worked_controller().table);
+    let answers: Vec<&[u32]> = worked.steps.iter().map(|step| &step.answer[..]).collect();
+    let stated: [&[u32]; 8] = [
+        &[0, 0, 0, 0, 0, 0],
+        &[1, 0, 2, 3, 2, 2],
+        &[0, 0, 1, 0, 2, 2],
+        &[1, 0, 1, 0, 2, 2],
+        &[0, 0, 0, 0, 1, 0],
+        &[1, 0, 2, 3, 1, 0],
+        &[0, 0, 1, 0, 1, 0],
+        &[1, 0, 1, 0, 1, 0],
+    ];
+    assert_eq!(answers[..8], stated);
+    let fresh = Script::fresh(2, 4);
+    let saved = Script::fresh(2, 4).with(&[Call::Checkpoint { p: 0 }]);
+    vec![worked, grounds_on(&fresh.table), grounds_on(&saved.table)]
+}
+
+/// n = 2, E = 2: the rows of grounds in order, each with those after it met as well as with none of them.
+fn rows_of_grounds() -> Vec<Script> {
+    let words = words_of_records(2, &[vec![checkpoint(1), send(1, 1, 1)], vec![receipt(0, 1, 0)]]);
+    let length = table_length(2, 2);
+    let bad = changed(&words, &[(section(2, 1) + COUNT, 2)]);
+    let (dimensions, badly_laid) = (from_words(&changed(&bad, &[(0, 17)])), from_words(&bad));
+    let on = |table: &[u8], number: u32, areas: &[usize], masks: &[u32]| {
+        let mut script = Script::on(table);
+        for (&area, &mask) in areas.iter().flat_map(|area| masks.iter().map(move |mask| (area, mask))) {
+            assert_eq!(script.call(Call::Grounds { mask }, area), number);
+        }
+        script
+    };
+    let good = from_words(&words);
+    vec![
+        on(&dimensions[..7], 2, &[16, 15], &[0, MAX]),
+        on(&dimensions[..length - 1], 1, &[16, 15], &[0, MAX]),
+        on(&badly_laid[..length - 1], 2, &[16, 15], &[0, MAX]),
+        on(&badly_laid, 3, &[16, 15], &[0, MAX]),
+        on(&good, 4, &[0, 4, 8, 15, 17, 20, 24, length], &[0, 4, MAX]),
+        on(&good, 11, &[16], &[4, 5, 7, 1 << 16, 1 << 31, MAX]),
+        on(&good, 0, &[16], &[0, 1, 2, 3]),
+    ]
+}
+
+/// Well laid tables that no run makes, or none that drawn ones are likely to be.
+fn tables_for_grounds() -> Vec<Vec<u8>> {
+    let small: [Vec<Vec<Record>>; 6] = [
+        // Process 1 has received (0, 1), which goes to 2 and is inside; then (0, 2), which isn't sent.
+        vec![vec![send(2, 1, 0)], vec![receipt(0, 1, 0), receipt(0, 2, 0)], vec![]],
+        // A failed process 0 has no checkpoint record, so that its receipts have no say.
+        vec![vec![receipt(1, 1, 0), receipt(1, 2, 0)], vec![send(0, 1, 0), send(0, 2, 0)]],
+        // A failed process 0 is at 2: of its messages process 1 has received one that is inside and one that isn't.
+        vec![
+            vec![send(1, 1, 0), checkpoint(1), send(1, 2, 1)],
+            vec![receipt(0, 1, 0), receipt(0, 2, 0), checkpoint(1)],
+        ],
+        // The later message comes first, and the other one behind process 1's last checkpoint.
+        vec![
+            vec![checkpoint(1), send(1, 1, 1), send(1, 2, 1)],
+            vec![checkpoint(1), receipt(0, 2, 0), checkpoint(2), receipt(0, 1, 0)],
+        ],
+        // Process 2's receipt is of a send that another process's fall takes back.
+        vec![
+            vec![checkpoint(1), send(1, 1, 1)],
+            vec![checkpoint(1), receipt(0, 1, 1), checkpoint(2), send(2, 1, 2)],
+            vec![checkpoint(2), receipt(1, 1, 2), checkpoint(3), receipt(1, 1, 2)],
+        ],
+        crossed().to_vec(),
+    ];
+    let mut tables: Vec<_> = small.iter().map(|sections| from_records(4, sections)).collect();
+    tables.extend([from_records(4, &full()), fall().table]);
+    tables
+}
+
 /// Document 02, slip 2: failed processes at their counts, on a fresh table and after a checkpoint.
 fn just_saved() -> Script {
     let mut script = Script::fresh(2, 4);
@@ -714,6 +818,17 @@ fn rules() -> String {
     // One of so few records may be as a run leaves it.
     let of_no_run = unmade.iter().filter(|table| records(table).iter().flatten().count() > 2);
     file.group("audit_unmade", "The audit on well laid tables that no run makes.", audits(of_no_run, 0));
+    let why = "The grounds of the worked controller's failure lines, of a fresh table's and of one with a checkpoint.";
+    file.group("grounds_worked", why, worked_grounds());
+    file.group("grounds_rows", "The rows of grounds, in order.", rows_of_grounds());
+    let all = |tables: &[Vec<u8>]| tables.iter().map(|table| grounds_on(table)).collect();
+    file.group(
+        "grounds_stray",
+        "Grounds where receipts lack their send, repeat, or stand behind what goes.",
+        all(&tables_for_grounds()),
+    );
+    file.group("grounds_made", "Grounds on the tables that the runs left.", all(&made));
+    file.group("grounds_unmade", "Grounds on the well laid tables that no run makes.", all(&unmade));
     assert_eq!(file.met, numbers(), "the numbers that are met");
     file.text
 }
