@@ -13,8 +13,8 @@ seed=1
 origin="fuzz, case [0-9]+, CKPT_SEED=$seed"
 missed=0
 
-# what overrun.c wraps: a call that only reads the table, two that write it, and two that are lent more than table and area
-calls=(ckpt_line ckpt_send ckpt_receipt ckpt_resend ckpt_audit)
+# what overrun.c wraps: two calls that only read the table, two that write it, and two that are lent more than table and area
+calls=(ckpt_line ckpt_send ckpt_receipt ckpt_grounds ckpt_resend ckpt_audit)
 
 # wrapped WORDS..: makes the fuzzer with overrun.c, compiled with these words, around these calls of the archive
 wrapped() {
@@ -73,7 +73,7 @@ engine "no fault"
 wrapped && passes
 told
 
-for block in table area "table of resend" "area of resend" positions "table of audit" "area of audit" scratch; do
+for block in table area "table of grounds" "area of grounds" "table of resend" "area of resend" positions "table of audit" "area of audit" scratch; do
     lent=${block% of *}
     case $lent in positions | scratch) lent="positions or scratch" ;; esac
     touches read_before "$block" "SEGV" "caused by a READ" "$lent with a closed page in front"
@@ -94,6 +94,18 @@ told
 
 engine "a place counted from 0"
 wrapped -DPLACE_FROM_0 && finds "differ in the area" "$origin" "Receipt" "proved: +returned 0"
+told
+
+engine "a ground's place counted from 0"
+wrapped -DGROUND_FROM_0 && finds "differ in the area" "$origin" "Grounds" "proved: +returned 0"
+told
+
+engine "the ground 1 for every failed process"
+wrapped -DFAILED_ALONE && finds "differ in the area" "$origin" "Grounds" "proved: +returned 0"
+told
+
+engine "an area written by refused grounds"
+wrapped -DEARLY_GROUNDS && finds "differ in the area" "$origin" "Grounds" "proved: +returned 11,"
 told
 
 engine "a byte behind the list"

@@ -21,7 +21,8 @@
 
 /* tests/fuzz: runs a case, which makes its calls by fuzz_call; false where the engines disagree. */
 bool fuzz_case(uint64_t seed, uint64_t number);
-/* tests/fuzz: prints the tally; false where a call was never accepted, or never refused, or the audit never said 0, or never 1. */
+/* tests/fuzz: prints the tally; false where a call was never accepted, or never refused, the audit never said 0, or never 1, or a
+   ground was never met. */
 bool fuzz_tally(void);
 /* Bytes that tests/fuzz wants lent: a table, and what the call is lent besides. */
 struct bytes {
@@ -35,11 +36,11 @@ uint32_t fuzz_call(uint32_t place, const uint32_t *numbers, const struct bytes *
 #define ROOM ((size_t)1 << 20)
 /* A case takes some milliseconds. */
 #define LONGEST_CASE 60
-/* From so many seconds on, every call must have been accepted and refused, and the audit have said 0 and 1. */
+/* From so many seconds on, every call must have been accepted and refused, the audit have said 0 and 1, and each ground been met. */
 #define LONG_RUN 5
 
 /* In the order of CALLS in tests/cases. */
-enum call { FRESH, CHECKPOINT, SEND, RECEIPT, LINE, FAILED, RESEND, AUDIT };
+enum call { FRESH, CHECKPOINT, SEND, RECEIPT, LINE, FAILED, GROUNDS, RESEND, AUDIT };
 /* What a call is lent at most, in the order of its sort there: the third is positions or a scratch. */
 enum lent { TABLE, AREA, FURTHER, LENT };
 static const char *const lent_names[LENT] = {"table", "area", "positions or scratch"};
@@ -112,6 +113,7 @@ static uint32_t on_engine(enum call call, const uint32_t *x, const struct bytes 
     case RECEIPT: return ckpt_receipt(OF(TABLE), OF(AREA), x[0], x[1], x[2]);
     case LINE: return ckpt_line(OF(TABLE), OF(AREA), x[0]);
     case FAILED: return ckpt_failed(OF(TABLE), OF(AREA), x[0]);
+    case GROUNDS: return ckpt_grounds(OF(TABLE), OF(AREA), x[0]);
     case RESEND: return ckpt_resend(OF(TABLE), OF(FURTHER), OF(AREA));
     case AUDIT: return ckpt_audit(OF(TABLE), OF(AREA), OF(FURTHER));
     }
@@ -180,7 +182,7 @@ int main(int argc, char **argv) {
            seconds, seed);
     fflush(stdout);
     if (!fuzz_tally() && seconds >= LONG_RUN) {
-        fprintf(stderr, "fuzz: a call was never accepted or never refused, or a verdict never given\n");
+        fprintf(stderr, "fuzz: a call was never accepted or never refused, or a verdict or ground never given\n");
         return 1;
     }
     return 0;

@@ -1,10 +1,12 @@
-/* An engine that goes wrong, to see that the fuzzer finds it (tests/overruns.sh): ckpt_line, ckpt_send, ckpt_receipt, ckpt_resend and
-   ckpt_audit of the archive, wrapped by the linker. -DTOUCH is what all but ckpt_receipt do first, one of the functions below, with
-   the lent block that -DTOUCHED names; without these they do what the archive's do. -DWRONG_NUMBER makes ckpt_send return 5 where 6
-   is due, -DNOTHING_CARRIED makes it leave 0 as the fourth word of its record, -DPLACE_FROM_0 makes ckpt_receipt count the place of
-   the send from 0, -DBEHIND_LIST makes ckpt_resend write the byte after the last entry, and -DEARLY_COUNT the area's first word
-   though the area is too short. -DALWAYS_MADE makes ckpt_audit say 1 of each table, -DNEVER_MADE 0, -DEARLY_SCRATCH makes it write
-   its scratch though it is refused, and -DHELD say what the scratch held before. Compiled without a sanitizer, as the archive is. */
+/* An engine that goes wrong, to see that the fuzzer finds it (tests/overruns.sh): ckpt_line, ckpt_send, ckpt_receipt, ckpt_grounds,
+   ckpt_resend and ckpt_audit of the archive, wrapped by the linker. -DTOUCH is what all but ckpt_receipt do first, one of the functions
+   below, with the lent block that -DTOUCHED names; without these they do what the archive's do. -DWRONG_NUMBER makes ckpt_send return
+   5 where 6 is due, -DNOTHING_CARRIED makes it leave 0 as the fourth word of its record, -DPLACE_FROM_0 makes ckpt_receipt count the
+   place of the send from 0. -DGROUND_FROM_0 makes ckpt_grounds count its places from 0, -DFAILED_ALONE give every failed process the
+   ground 1, and -DEARLY_GROUNDS write the area though it refuses the mask. -DBEHIND_LIST makes ckpt_resend write the byte after the
+   last entry, and -DEARLY_COUNT the area's first word though the area is too short. -DALWAYS_MADE makes ckpt_audit say 1 of each table,
+   -DNEVER_MADE 0, -DEARLY_SCRATCH makes it write its scratch though it is refused, and -DHELD say what the scratch held before.
+   Compiled without a sanitizer, as the archive is. */
 #include <string.h>
 
 #include "table.h"
@@ -12,6 +14,7 @@
 uint32_t __real_ckpt_line(const uint8_t *table, size_t table_len, uint8_t *area, size_t area_len, uint32_t number);
 uint32_t __real_ckpt_send(uint8_t *table, size_t table_len, uint8_t *area, size_t area_len, uint32_t p, uint32_t q);
 uint32_t __real_ckpt_receipt(uint8_t *table, size_t table_len, uint8_t *area, size_t area_len, uint32_t p, uint32_t q, uint32_t k);
+uint32_t __real_ckpt_grounds(const uint8_t *table, size_t table_len, uint8_t *area, size_t area_len, uint32_t mask);
 uint32_t __real_ckpt_resend(const uint8_t *table, size_t table_len, const uint8_t *positions, size_t positions_len, uint8_t *area,
                             size_t area_len);
 
@@ -94,6 +97,26 @@ uint32_t __wrap_ckpt_receipt(uint8_t *table, size_t table_len, uint8_t *area, si
     uint32_t returned = __real_ckpt_receipt(table, table_len, area, area_len, p, q, k);
 #ifdef PLACE_FROM_0
     if (returned == CKPT_OK) put_word(area, 2, ckpt_word(area, 2) - 1);
+#endif
+    return returned;
+}
+
+uint32_t __wrap_ckpt_grounds(const uint8_t *table, size_t table_len, uint8_t *area, size_t area_len, uint32_t mask) {
+    lent("table of grounds", table, table_len);
+    lent("area of grounds", area, area_len);
+    uint32_t returned = __real_ckpt_grounds(table, table_len, area, area_len, mask);
+#ifdef GROUND_FROM_0
+    for (size_t p = 0; returned == CKPT_OK && p < area_len / 8; p++) {
+        if (ckpt_word(area, 2 * p) == CKPT_GROUND_RECEIPT) put_word(area, 2 * p + 1, ckpt_word(area, 2 * p + 1) - 1);
+    }
+#endif
+#ifdef FAILED_ALONE
+    for (size_t p = 0; returned == CKPT_OK && p < area_len / 8; p++) {
+        if (mask >> p & 1) put_word(area, 2 * p, CKPT_GROUND_FAILED), put_word(area, 2 * p + 1, 0);
+    }
+#endif
+#ifdef EARLY_GROUNDS
+    if (returned == CKPT_BAD_MASK) area[area_len - 1] ^= 1;
 #endif
     return returned;
 }

@@ -46,7 +46,7 @@ impl History {
     }
 
     /// "A failed process may be at 0 or a checkpoint; another may also be at c."
-    fn permits(&self, mask: u32, p: usize, position: u32) -> bool {
+    pub fn permits(&self, mask: u32, p: usize, position: u32) -> bool {
         let (own, t) = (&self.sections[p], position as usize);
         t == 0 || is_checkpoint(&own[t - 1]) || !failed(mask, p) && t == own.len()
     }

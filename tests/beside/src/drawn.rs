@@ -16,12 +16,13 @@ use std::mem::replace;
 /// The most steps of a run from fresh.
 const MOST: u32 = 300;
 
-/// How often each call returned each number, how often the audit said 0 and 1, and how many calls were made on tables of
-/// the largest dimensions.
+/// How often each call returned each number, how often the audit said 0 and 1, how many processes got each ground, and how
+/// many calls were made on tables of the largest dimensions.
 #[derive(Default)]
 pub struct Tally {
     counts: BTreeMap<(&'static str, u32), u64>,
     pub verdicts: [u64; 2],
+    pub grounds: [u64; 3],
     pub largest: u64,
 }
 
@@ -54,7 +55,8 @@ impl fmt::Display for Tally {
             numbers().iter().try_for_each(|&number| write!(f, "{:>9}", self.count(call.name, number)))?;
         }
         let [unmade, made] = self.verdicts;
-        write!(f, "\naudits that said 1: {made}, 0: {unmade}")
+        write!(f, "\naudits that said 1: {made}, 0: {unmade}")?;
+        write!(f, "\nprocesses that got the grounds 0, 1 and 2: {:?}", self.grounds)
     }
 }
 
@@ -135,12 +137,24 @@ impl Case<'_> {
         self.call(call)
     }
 
-    /// Steps, lines, resends and audits on the table as it is, whose messages are known.
+    /// The grounds of a failure line.
+    fn grounds(&mut self) -> u32 {
+        let mask = self.rng.mask(self.n);
+        let returned = self.call(Call::Grounds { mask });
+        if returned == 0 {
+            let answer = to_words(self.pair.areas().next().expect("an area"));
+            answer.chunks(2).for_each(|words| self.tally.grounds[words[0] as usize] += 1);
+        }
+        returned
+    }
+
+    /// Steps, lines, grounds, resends and audits on the table as it is, whose messages are known.
     pub fn steps(&mut self, count: u32, mut known: Vec<Call>) {
         for _ in 0..count {
             match self.rng.below(24) {
                 0 | 1 => self.resend(),
                 2 => self.audit(),
+                3 | 4 => self.grounds(),
                 _ => 0,
             };
             let call = step_or_line(&mut self.rng, self.n, self.e, &known);
@@ -179,6 +193,7 @@ impl Case<'_> {
         self.call(Call::Receipt { p, q, k });
         self.call(Call::Line { number });
         self.call(Call::Failed { mask });
+        self.call(Call::Grounds { mask });
         self.resend_on(&cut, length);
         self.audit();
         self.fresh();

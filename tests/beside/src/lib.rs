@@ -10,6 +10,7 @@ use std::iter::once;
 pub mod cuts;
 pub mod drawn;
 pub mod program;
+pub mod tables;
 pub mod texts;
 
 const DEFAULT_SEED: u64 = 20_260_101;
@@ -100,6 +101,7 @@ pub fn on_proved(call: Call, lent: &mut [&mut [u8]]) -> u32 {
         (Call::Receipt { p, q, k }, [table, area]) => ckpt::receipt(table, area, p, q, k),
         (Call::Line { number }, [table, area]) => ckpt::line(table, area, number),
         (Call::Failed { mask }, [table, area]) => ckpt::failed(table, area, mask),
+        (Call::Grounds { mask }, [table, area]) => ckpt::grounds(table, area, mask),
         (Call::Resend, [table, area, positions]) => ckpt::resend(table, positions, area),
         (Call::Audit, [table, area, scratch]) => ckpt::audit(table, area, scratch),
         (_, lent) => panic!("{call:?} with {} lent areas", lent.len()),

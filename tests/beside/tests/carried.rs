@@ -9,7 +9,7 @@ use cases::table::{
     changed, checkpoint, forced, is_send, number_of, old_table_length, receipt, record, send,
     words_of_records, Record, A, B, CARRIED, KIND, RECEIPT, SEND,
 };
-use cases::Call::{self, Checkpoint, Failed, Fresh, Line, Receipt, Resend, Send};
+use cases::Call::{self, Checkpoint, Failed, Fresh, Grounds, Line, Receipt, Resend, Send};
 use cases::{carry, from_records, from_words, records, to_words, well_laid};
 
 const ORIGIN: Origin = Origin { test: "fourth word", seed: 0, case: 0 };
@@ -156,12 +156,12 @@ fn each_receipt_has_its_sends_word() {
     assert!(equal > TABLES && below > TABLES, "{equal} {below}");
 }
 
-/// What is answered on a table: lines of all numbers, failure lines of all masks, resend at every cut, then each receipt
-/// on a copy, with the number returned.
+/// What is answered on a table: lines of all numbers, failure lines of all masks and their grounds, resend at every cut, then
+/// each receipt on a copy, with the number returned.
 fn answers(table: &[u8], n: u32, e: u32, origin: Origin) -> Vec<(u32, Vec<u32>)> {
     let mut pair = Pair::new(table, origin);
     let lines = (0..=n * e + 1).chain([MAX]).map(|number| Line { number });
-    let failures = (0..1 << n).map(|mask| Failed { mask });
+    let failures = (0..1 << n).flat_map(|mask| [Failed { mask }, Grounds { mask }]);
     let mut answers: Vec<_> = lines.chain(failures).map(|call| pair.exact(call)).collect();
     let area = vec![LENT; 4 + 12 * (n * e) as usize];
     answers.extend(tuples(&counts(&records(table))).map(|cut| {
@@ -210,8 +210,9 @@ fn what_receipts_carried_changes_no_answer() {
         assert_eq!(own[0], (0, vec![0; n as usize]), "line 0: {origin}");
         assert!(own == answers(&other, n, e, origin), "{origin}");
         different += u64::from(table != other);
+        // The failure line of mask 0 comes after lines 0 to n × E + 1 and the last one.
         let at_counts = [counts(&sections), vec![0, 0]].concat();
-        orphans += u64::from(!own.contains(&(0, at_counts)));
+        orphans += u64::from(own[(n * e + 3) as usize] != (0, at_counts));
     }
     println!("other words: CKPT_SEED={seed}, {different} of {TABLES} tables differ, {orphans} have orphans");
     assert!(different > TABLES / 4 && orphans > TABLES / 4, "{different} {orphans}");

@@ -7,7 +7,7 @@ use cases::table::{
     changed, checkpoint, forced, record, section, words_of_records, A, B, CARRIED, COUNT, KIND, NUMBER,
     SENDS, WIDTH,
 };
-use cases::Call::{self, Audit, Checkpoint, Failed, Fresh, Line, Receipt, Resend, Send};
+use cases::Call::{self, Audit, Checkpoint, Failed, Fresh, Grounds, Line, Receipt, Resend, Send};
 use cases::{from_records, from_words, records, table_length, to_words};
 
 const ORIGIN: Origin = Origin { test: "document 01", seed: 0, case: 0 };
@@ -197,6 +197,7 @@ fn empty_slices_without_bytes_behind_them() {
     assert_eq!(ckpt::receipt(&mut [], &mut [], 0, 1, 1), 2);
     assert_eq!(ckpt::line(&[], &mut [], 0), 2);
     assert_eq!(ckpt::failed(&[], &mut [], 0), 2);
+    assert_eq!(ckpt::grounds(&[], &mut [], 0), 2);
     assert_eq!(ckpt::resend(&[], &[], &mut []), 2);
     assert_eq!(ckpt::audit(&[], &mut [], &mut []), 2);
     let mut table = worked_controller().table().to_vec();
@@ -206,6 +207,7 @@ fn empty_slices_without_bytes_behind_them() {
     assert_eq!(ckpt::receipt(&mut table, &mut [], 0, 1, 1), 4);
     assert_eq!(ckpt::line(&table, &mut [], 0), 4);
     assert_eq!(ckpt::failed(&table, &mut [], 0), 4);
+    assert_eq!(ckpt::grounds(&table, &mut [], 0), 4);
     assert_eq!(ckpt::resend(&table, &[], &mut []), 12);
     assert_eq!(ckpt::resend(&table, &[0; 12], &mut []), 13);
     assert_eq!(ckpt::audit(&table, &mut [], &mut []), 4);
@@ -278,6 +280,7 @@ fn the_first_row_met_is_returned() {
         Receipt { p: 3, q: 3, k: 0 },
         Line { number: MAX },
         Failed { mask: 8 },
+        Grounds { mask: 8 },
         Audit,
     ];
     for call in outside {
@@ -317,6 +320,7 @@ fn the_first_row_met_is_returned() {
     check(&one_free_at(12), Checkpoint { p: 0 }, 4, 10);
     for mask in [8, 9, 15, 1 << 16, 1 << 31, MAX] {
         check(&full, Failed { mask }, 20, 11);
+        check(&full, Grounds { mask }, 24, 11);
     }
     // The scratch has no bytes here: tests/audit.rs has other lengths.
     check(&full, Audit, 4, 14);
@@ -327,6 +331,7 @@ fn the_first_row_met_is_returned() {
     check(&one_free_at(12), Receipt { p: 0, q: 1, k: 3 }, 16, 0);
     check(&full, Line { number: MAX }, 12, 0);
     check(&full, Failed { mask: 7 }, 20, 0);
+    check(&full, Grounds { mask: 7 }, 24, 0);
     // (1, 3) carries 2: at number 2 it takes the one record that is free, at number 1 it would force.
     check(&one_free_at(2), Receipt { p: 0, q: 1, k: 3 }, 16, 0);
     check(&one_free_at(1), Receipt { p: 0, q: 1, k: 3 }, 16, 9);

@@ -8,7 +8,8 @@ fn names() -> Vec<&'static str> {
     let defined = |line: &'static str| {
         let mut words = line.strip_prefix("#define ")?.split_whitespace();
         let (name, value) = (words.next()?, words.next()?.strip_suffix('u')?);
-        (!name.starts_with("CKPT_MAX_")).then_some((value.parse::<u32>().ok()?, name))
+        let returned = !name.starts_with("CKPT_MAX_") && !name.starts_with("CKPT_GROUND_");
+        returned.then_some((value.parse::<u32>().ok()?, name))
     };
     let (named, names): (Vec<_>, Vec<_>) = HEADER.lines().filter_map(defined).unzip();
     assert!(named.iter().copied().eq(0..names.len() as u32), "{named:?}");

@@ -23,6 +23,7 @@ fn random_calls() {
     println!("of these on tables with n = 16, E = 1024: {}", tally.largest);
     assert!(tally.total() >= 1_000_000 && tally.largest >= 1_000);
     assert!(tally.verdicts.iter().all(|&count| count >= 20_000), "{:?}", tally.verdicts);
+    assert!(tally.grounds.iter().all(|&count| count >= 20_000), "{:?}", tally.grounds);
     for call in CALLS {
         assert_eq!(tally.met(call.name), call.numbers(), "numbers that {} returned", call.name);
     }
