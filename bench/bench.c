@@ -4,8 +4,8 @@
    in a scratch is open. --short makes few rounds.
 
    Status 1 where the two differ or an audit is not what is meant, where a call on the largest table takes more than BOUND times the
-   peer's time, or where a call other than a failure line takes more than BOUND times as long for a record place at E = 1,024 as at
-   E = 256. */
+   peer's time, or where a call other than a failure line and its grounds takes more than BOUND times as long for a record place at
+   E = 1,024 as at E = 256. */
 #include <stdbool.h>
 #include <stdio.h>
 #include <stdlib.h>
@@ -21,6 +21,7 @@
     X(receipt, TABLE, AREA_OF(CKPT_RECEIPT_LENGTH), MESSAGE.to, MESSAGE.from, MESSAGE.send) \
     X(line, TABLE, AREA_OF(CKPT_LINE_LENGTH(t->n)), MESSAGE.send)                           \
     X(failed, TABLE, AREA_OF(CKPT_FAILED_LENGTH(t->n)), MASK)                               \
+    X(grounds, TABLE, AREA_OF(CKPT_GROUNDS_LENGTH(t->n)), MASK)                             \
     X(resend, TABLE, POSITIONS, AREA_OF(t->list))                                           \
     X(audit, TABLE, AREA_OF(CKPT_AUDIT_LENGTH), SCRATCH)                                    \
     X(fresh, TABLE, t->n, t->e)
@@ -40,7 +41,7 @@ enum call { EACH_CALL(NUMBERED) CALLS };
 #define LONGEST (PARTS * CKPT_TABLE_LENGTH(CKPT_MAX_PROCESSES, CKPT_MAX_RECORDS / PARTS))
 #define CUT CKPT_LINE_LENGTH(CKPT_MAX_PROCESSES)
 /* The longest area, without and with that of the messages to send again. */
-#define AREA CKPT_FAILED_LENGTH(CKPT_MAX_PROCESSES)
+#define AREA CKPT_GROUNDS_LENGTH(CKPT_MAX_PROCESSES)
 #define LONGEST_AREA (PARTS * CKPT_RESEND_MOST(CKPT_MAX_PROCESSES, CKPT_MAX_RECORDS / PARTS))
 #define MOST_RUNS 7
 #define MOST_ROUNDS 21
@@ -101,9 +102,9 @@ struct row {
     double product[MOST_RUNS], peer[MOST_RUNS], ratio[MOST_RUNS], passes[MOST_RUNS];
 };
 
-enum { SIZES = 3, FALL_ROW = SIZES * CALLS, TRANSIT_ROW, EXACT_ROW, FULL_ROW, UNMADE_ROW, RING_ROW, ROWS };
+enum { SIZES = 3, FALL_ROW = SIZES * CALLS, MOVED_ROW, SEARCH_ROW, TRANSIT_ROW, EXACT_ROW, FULL_ROW, UNMADE_ROW, RING_ROW, ROWS };
 static const uint32_t sizes[SIZES][2] = {{3, 6}, {8, 256}, {16, 1024}};
-static struct tables drawn_tables[SIZES], fall, transit, exact, unmade, ring;
+static struct tables drawn_tables[SIZES], fall, search, transit, exact, unmade, ring;
 static struct row rows[ROWS];
 
 /* The series of the growth: n is 16, and each E is twice the one before. So many tables lie side by side that all have the record
@@ -346,9 +347,18 @@ static void count_rounds(const struct tables *table) {
     memcpy(fallen.to, at, sizeof at);
 }
 
+/* Sees that the product gives processes 0 and 1 these grounds, and says of the others that they stay. */
+static void check_grounds(const struct tables *table, const uint32_t grounds[4], const char *why) {
+    uint8_t area[CKPT_GROUNDS_LENGTH(CKPT_MAX_PROCESSES)];
+    if (ckpt_grounds(table->bytes, table->length, area, sizeof area, MASK) != CKPT_OK) end_badly("grounds are refused");
+    for (uint32_t i = 0; i < 2 * table->n; i++) {
+        if (ckpt_word(area, i) != (i < 4 ? grounds[i] : 0)) end_badly(why);
+    }
+}
+
 /* Sees that the fall is the one that is meant, and that the product answers where it ends. */
 static void check_fall(const struct tables *table) {
-    uint8_t area[AREA];
+    uint8_t area[CKPT_FAILED_LENGTH(CKPT_MAX_PROCESSES)];
     count_rounds(table);
     if (fallen.rounds != FALL_ROUNDS) end_badly("the fall does not take 341 rounds");
     if (fallen.to[0] != 1 || fallen.to[1] != 1) end_badly("the fall does not end at the first checkpoints");
@@ -357,6 +367,40 @@ static void check_fall(const struct tables *table) {
         if (ckpt_word(area, p) != (p < 2 ? fallen.to[p] : 0)) end_badly("the product's failure line is not where the fall ends");
     }
     if (ckpt_word(area, table->n) != 3 || ckpt_word(area, table->n + 1) != 2) end_badly("not just processes 0 and 1 fall");
+    /* Their first receipts are at place 3. */
+    const uint32_t grounds[4] = {CKPT_GROUND_RECEIPT, 3, CKPT_GROUND_RECEIPT, 3};
+    check_grounds(table, grounds, "the product's grounds are not those of the fall");
+}
+
+/* ---- a long search ---- */
+
+/* Half of the records of process p, which had none: checkpoints. */
+static void add_saves(struct tables *table, uint32_t p) {
+    uint32_t saves = table->e / 2;
+    for (uint32_t i = 1; i <= saves; i++) add_record(table, p, KIND_CHECKPOINT, i, 0, 0);
+    put_word(table->bytes, heading(table, p, HEADING_NUMBER), saves);
+}
+
+/* A table that calls make. Process 0 has sent a message to 1, and fails. Process 1 has received this one last, behind 511 of process 2,
+   which stay sent: each is looked for, the last one first, and process 2 had saved 512 times before it sent them. */
+static void long_search(struct tables *table) {
+    begin_tables(table, CKPT_MAX_PROCESSES, CKPT_MAX_RECORDS, 1);
+    table->turns = FEW_TURNS;
+    if (peer_fresh(table->bytes, table->length, table->n, table->e) != CKPT_OK) end_badly("no fresh table");
+    uint32_t saves = table->e / 2, messages = saves - 1;
+    add_record(table, 0, KIND_SEND, 1, 1, 0);
+    put_word(table->bytes, heading(table, 0, HEADING_SENDS), 1);
+    add_saves(table, 1);
+    for (uint32_t k = messages; k > 0; k--) add_record(table, 1, KIND_RECEIPT, 2, k, saves);
+    add_record(table, 1, KIND_RECEIPT, 0, 1, 0);
+    add_saves(table, 2);
+    for (uint32_t k = 1; k <= messages; k++) add_record(table, 2, KIND_SEND, 1, k, saves);
+    put_word(table->bytes, heading(table, 2, HEADING_SENDS), messages);
+}
+
+static void check_search(const struct tables *table) {
+    const uint32_t grounds[4] = {CKPT_GROUND_FAILED, 0, CKPT_GROUND_RECEIPT, table->e};
+    check_grounds(table, grounds, "the product's ground is not the last record, behind receipts that stay");
 }
 
 /* ---- tables to audit ---- */
@@ -418,6 +462,7 @@ static void check_audit(const struct tables *table, uint32_t verdict) {
 
 static void check_audits(void) {
     for (int size = 0; size < SIZES; size++) check_audit(&drawn_tables[size], 1);
+    check_audit(&search, 1);
     check_audit(&transit, 1);
     check_audit(&unmade, 0);
     check_audit(&ring, 1);
@@ -639,9 +684,14 @@ static void print_all(void) {
            sizes[0][0], sizes[0][1], SMALL_TABLES);
     print_rows(0, FALL_ROW);
     printf("\n## A failure line that falls %u rounds\n\n", fallen.rounds);
-    printf("Process 0 fails. The rounds take it from position %u to %u, and process 1, which hangs on it, from %u to %u.\n\n",
+    printf("Process 0 fails. The rounds take it from position %u to %u, and process 1, which hangs on it, from %u to %u. The grounds are\n"
+           "the receipts that moved them, at place 3 of either.\n\n",
            fallen.from[0], fallen.to[0], fallen.from[1], fallen.to[1]);
-    print_rows(FALL_ROW, TRANSIT_ROW);
+    print_rows(FALL_ROW, SEARCH_ROW);
+    puts("\n## A ground that is long looked for\n");
+    puts("Process 0 fails, and process 1 goes back by its last record, a receipt from process 0. Before it, and after process 1's last\n"
+         "checkpoint, stand 511 receipts of messages that stay sent. Their sender had saved 512 times before it sent the first.\n");
+    print_rows(SEARCH_ROW, TRANSIT_ROW);
     printf("\n## %u messages to send again\n\n", in_transit);
     puts("A table that is seven eighths full, from more sends. The first row's area is long enough for any list, the second's just for\n"
          "this one.\n");
@@ -674,7 +724,7 @@ static int over_bounds(void) {
     }
     for (int call = 0; call < CALLS; call++) {
         double ratio = place(call, SERIES - 1) / place(call, BOUND_FROM);
-        if (call == CALL_failed || ratio <= BOUND) continue;
+        if (call == CALL_failed || call == CALL_grounds || ratio <= BOUND) continue;
         over = 1;
         fprintf(stderr, "bench: %s takes %.2f times as long for a place at E = 1024 as at E = 256, more than %.0f\n",
                 calls[call].name, ratio, BOUND);
@@ -694,10 +744,13 @@ static void make_tables(void) {
     }
     for (int i = 0; i < SERIES; i++) half_full(&grown[i], CKPT_MAX_PROCESSES, series[i], (int)(CKPT_MAX_RECORDS / series[i]));
     falling(&fall);
+    long_search(&search);
     crowded();
     spoilt();
     go_round(&ring);
     rows[FALL_ROW] = (struct row){.tables = &fall, .call = CALL_failed, .of = " in the fall"};
+    rows[MOVED_ROW] = (struct row){.tables = &fall, .call = CALL_grounds, .of = " in the fall"};
+    rows[SEARCH_ROW] = (struct row){.tables = &search, .call = CALL_grounds, .of = " behind receipts that stay"};
     rows[TRANSIT_ROW] = (struct row){.tables = &transit, .call = CALL_resend, .of = " of thousands"};
     rows[EXACT_ROW] = (struct row){.tables = &exact, .call = CALL_resend, .of = " into an exact area"};
     rows[FULL_ROW] = (struct row){.tables = &transit, .call = CALL_audit, .of = " of a fuller table"};
@@ -715,6 +768,7 @@ int main(int argc, char **argv) {
     rounds = brief ? 7 : MOST_ROUNDS;
     make_tables();
     check_fall(&fall);
+    check_search(&search);
     for (int run = 0; run < runs; run++) {
         for (int row = 0; row < ROWS; row++) measure(&rows[row], run);
         measure_growth(run);

@@ -1,12 +1,14 @@
-/* Engines that the bench must refuse (tests/bench.sh --faults): ckpt_send, ckpt_failed, ckpt_resend and ckpt_audit of the archive,
-   wrapped by the linker. -DCHECKS=N makes the peer check the table N times before ckpt_send, and -DAFTER=.. is what that does last.
-   -DREPEATS=N makes the peer look N times for the line before ckpt_failed does, -DLISTS=N list the messages N times before ckpt_resend
-   does, and -DAUDITS=N audit the table N times before ckpt_audit does; -DLISTED=.. and -DAUDITED=.. are what these two do last. An
-   engine that waits for the peer is slower than the peer on every machine. Without these they do what the archive's do. */
+/* Engines that the bench must refuse (tests/bench.sh --faults): ckpt_send, ckpt_failed, ckpt_grounds, ckpt_resend and ckpt_audit of the
+   archive, wrapped by the linker. -DCHECKS=N makes the peer check the table N times before ckpt_send, and -DAFTER=.. is what that does
+   last. -DREPEATS=N makes the peer look N times for the line before ckpt_failed does, -DREASONS=N for the grounds before ckpt_grounds
+   does, -DLISTS=N list the messages N times before ckpt_resend does, and -DAUDITS=N audit the table N times before ckpt_audit does;
+   -DGROUNDED=.., -DLISTED=.. and -DAUDITED=.. are what these three do last. An engine that waits for the peer is slower than the peer
+   on every machine. Without these they do what the archive's do. */
 #include "../include/ckpt.h"
 
 uint32_t __real_ckpt_send(uint8_t *table, size_t table_len, uint8_t *area, size_t area_len, uint32_t p, uint32_t q);
 uint32_t __real_ckpt_failed(const uint8_t *table, size_t table_len, uint8_t *area, size_t area_len, uint32_t mask);
+uint32_t __real_ckpt_grounds(const uint8_t *table, size_t table_len, uint8_t *area, size_t area_len, uint32_t mask);
 uint32_t __real_ckpt_resend(const uint8_t *table, size_t table_len, const uint8_t *positions, size_t positions_len, uint8_t *area,
                             size_t area_len);
 uint32_t __real_ckpt_audit(const uint8_t *table, size_t table_len, uint8_t *area, size_t area_len, uint8_t *scratch,
@@ -14,6 +16,7 @@ uint32_t __real_ckpt_audit(const uint8_t *table, size_t table_len, uint8_t *area
 
 extern __typeof__(ckpt_line) peer_line;
 extern __typeof__(ckpt_failed) peer_failed;
+extern __typeof__(ckpt_grounds) peer_grounds;
 extern __typeof__(ckpt_resend) peer_resend;
 extern __typeof__(ckpt_audit) peer_audit;
 
@@ -25,6 +28,12 @@ extern __typeof__(ckpt_audit) peer_audit;
 #endif
 #ifndef REPEATS
 #define REPEATS 0
+#endif
+#ifndef REASONS
+#define REASONS 0
+#endif
+#ifndef GROUNDED
+#define GROUNDED (void)0
 #endif
 #ifndef LISTS
 #define LISTS 0
@@ -50,6 +59,13 @@ uint32_t __wrap_ckpt_send(uint8_t *table, size_t table_len, uint8_t *area, size_
 uint32_t __wrap_ckpt_failed(const uint8_t *table, size_t table_len, uint8_t *area, size_t area_len, uint32_t mask) {
     for (int left = REPEATS; left > 0; left--) peer_failed(table, table_len, area, area_len, mask);
     return __real_ckpt_failed(table, table_len, area, area_len, mask);
+}
+
+uint32_t __wrap_ckpt_grounds(const uint8_t *table, size_t table_len, uint8_t *area, size_t area_len, uint32_t mask) {
+    for (int left = REASONS; left > 0; left--) peer_grounds(table, table_len, area, area_len, mask);
+    uint32_t returned = __real_ckpt_grounds(table, table_len, area, area_len, mask);
+    GROUNDED;
+    return returned;
 }
 
 uint32_t __wrap_ckpt_resend(const uint8_t *table, size_t table_len, const uint8_t *positions, size_t positions_len, uint8_t *area,
