@@ -6,8 +6,9 @@
    these again. After every restart it lets all pulses reach the ledgers and compares these with the meters' own registers.
 
    host [SEED]                   a thousand random restarts; the last line is 'ledgers equal registers', and the status is 0
-   host --ignore-lines [SEED]    the same, but each process reloads its own last save: flats are billed for pulses twice, and the
-                                 host says so and ends with status 1 */
+   host --explain [SEED]         the same, and at each restart a line for each process that goes back, for field service: why it does
+   host --ignore-lines [SEED]    each process reloads its own last save instead: flats are billed for pulses twice, and the host says so
+                                 and ends with status 1; with --explain too, the lines say what the processes would do */
 #include <stdbool.h>
 #include <stdio.h>
 #include <stdlib.h>
@@ -41,8 +42,8 @@ static struct message sent[N][E + 1]; /* by sender and send number */
 static uint32_t sends[N];
 static uint32_t owed[N]; /* how many a process sent again when the table began: its first records are these sends */
 
-static bool ignore_lines;
-static struct { unsigned long saves, forced, received, overtaking, again, back, full, farthest; } seen;
+static bool ignore_lines, explaining;
+static struct { unsigned long restarts, saves, forced, received, overtaking, again, back, full, farthest; } seen;
 
 /* A number below the bound; the same seed gives the same run everywhere. */
 static uint64_t seed = 1;
@@ -87,6 +88,36 @@ static void fail(uint32_t failed) {
     }
 }
 
+/* The state of a process at this position, in words. */
+static const char *state_at(uint32_t at) {
+    static char words[24];
+    if (at == 0) return "its first state"; /* that which the table began from */
+    snprintf(words, sizeof words, "its save at %u", (unsigned)at);
+    return words;
+}
+
+/* Says why each process goes back that does, at the failure line of the mask. A ground names the receipt that took a process back by
+   its place, and there the table has the message. */
+static void explain(uint32_t failed, const uint8_t *line) {
+    const char *reloads = ignore_lines ? "would reload" : "reloads", *goes = ignore_lines ? "would go" : "goes";
+    uint8_t area[CKPT_GROUNDS_LENGTH(N)];
+    must(ckpt_grounds(table, sizeof table, area, sizeof area, failed));
+    for (uint32_t p = 0; p < N; p++) {
+        uint32_t ground = ckpt_word(area, 2 * p), place = ckpt_word(area, 2 * p + 1);
+        const char *state = state_at(ckpt_word(line, p));
+        if (ground == CKPT_GROUND_STAYS) continue;
+        printf("restart %lu: process %u ", seen.restarts, (unsigned)p);
+        if (ground == CKPT_GROUND_FAILED) {
+            printf("failed: %s %s\n", reloads, state);
+            continue;
+        }
+        size_t receipt = CKPT_RECORD_AT(E, p, place);
+        printf("%s%s back to %s: its receipt at %u is of message %u from process %u, which isn't sent any more\n",
+               failed >> p & 1 ? "failed and " : "", goes, state, (unsigned)place, (unsigned)ckpt_word(table, receipt + 2),
+               (unsigned)ckpt_word(table, receipt + 1));
+    }
+}
+
 /* Goes on from the failure line of the mask: with its states, on a fresh table, and with what was in transit sent again. The
    answer's mask alone tells which processes are reloaded: those that failed, at their last save too, and those below their count. The
    line of mask 0 has all running states, so nobody goes back.
@@ -103,6 +134,8 @@ static void restart(uint32_t failed) {
     must(ckpt_failed(table, sizeof table, area, sizeof area, failed));
     uint32_t back = ckpt_word(area, N);
     seen.back += ckpt_word(area, N + 1);
+    seen.restarts += failed != 0;
+    if (explaining && failed) explain(failed, area);
     for (uint32_t p = 0; p < N; p++) {
         uint32_t at = own ? last_save[p] : ckpt_word(area, p);
         if (own || back >> p & 1) running[p] = saved[p][at];
@@ -253,9 +286,13 @@ int main(int argc, char **argv) {
             ignore_lines = true;
             continue;
         }
+        if (!strcmp(argv[i], "--explain")) {
+            explaining = true;
+            continue;
+        }
         seed = strtoull(argv[i], &end, 10);
         if (end == argv[i] || *end) {
-            fputs("usage: host [--ignore-lines] [SEED]\n", stderr);
+            fputs("usage: host [--ignore-lines] [--explain] [SEED]\n", stderr);
             return 2;
         }
     }

@@ -116,8 +116,8 @@ host_ignores_lines() {
     cat "$made/host.out"
 }
 
-# host_that NAME OLD NEW: the host with one line changed reports a difference
-host_that() {
+# changed_host NAME OLD NEW: writes the source of the host with one line changed
+changed_host() {
     local name=$1 old=$2 new=$3 text rest
     text=$(<examples/host.c)
     rest=${text#*"$old"}
@@ -126,7 +126,11 @@ host_that() {
         return 1
     fi
     printf '%s\n' "${text/"$old"/"$new"}" >"$made/wrong_host.c"
-    host_of "$made/wrong_host.c" "$made/wrong_host" -O2 && differs "$name" "$made/wrong_host"
+}
+
+# host_that NAME OLD NEW: the host with one line changed reports a difference
+host_that() {
+    changed_host "$@" && host_of "$made/wrong_host.c" "$made/wrong_host" -O2 && differs "$1" "$made/wrong_host"
 }
 
 wrong_hosts() {
@@ -145,11 +149,106 @@ wrong_hosts() {
             'running[m->to].pulses[m->flat] += m->pulses; save(m->to); running[m->to].pulses[m->flat] -= m->pulses;'
 }
 
+# explaining SOURCE WORDS..: builds this host, compiled with these words, so that it says on standard error what it is to explain
+explaining() {
+    local source=$1
+    shift
+    host_of "$source" "$made/explaining" -O2 -Itests/c -Wl,--wrap=ckpt_grounds "$@" tests/c/explained.c
+}
+
+# explains SEED: what that host explains is what it is to explain, a line for each process that went back and each in one of six forms,
+# of which none is missing; for the rest it says what it says otherwise
+explains() {
+    local seed=$1 out=$made/explained.out said=$made/explained.said lines back forms
+    "$made/explaining" --explain "$seed" >"$out" 2>"$said" || return 1
+    lines=$(grep -c '^restart ' "$out")
+    back=$(sed -n 's/.* went back \([0-9]*\), .*/\1/p' "$out" | tail -n 1)
+    forms=$(sed -n 's/^\(restart [1-9][0-9]*: process\) [0-5] /\1 /; s/\(save\|receipt\) at [1-9][0-9]*/\1/g
+        s/message [1-9][0-9]* from process [0-5],/message/; s/^restart [0-9]*: process //p' "$out" | LC_ALL=C sort -u)
+    diff "$said" <(grep '^restart ' "$out") >"$made/explained.diff" && [ "$lines" -gt 1000 ] && [ "$lines" = "$back" ] &&
+        diff - <(echo "$forms") <<'END' && grep -v '^restart ' "$out" | diff - <("$made/host" "$seed")
+failed and goes back to its first state: its receipt is of message which isn't sent any more
+failed and goes back to its save: its receipt is of message which isn't sent any more
+failed: reloads its first state
+failed: reloads its save
+goes back to its first state: its receipt is of message which isn't sent any more
+goes back to its save: its receipt is of message which isn't sent any more
+END
+}
+
+# lines_ignored_explained SEED: where lines are ignored, they are explained as what would be, and the ledgers differ as they did
+lines_ignored_explained() {
+    local out=$made/explained.out
+    differs "explains the lines it ignores" "$made/host" --ignore-lines --explain "$1" || return 1
+    mv "$made/host.out" "$out"
+    grep -v '^restart ' "$out" | diff - <("$made/host" --ignore-lines "$1") &&
+        grep '^restart ' "$out" | grep -q ' would reload ' && ! grep '^restart ' "$out" | grep -v ' would '
+}
+
+# refused_words WORDS..: the host doesn't know these words
+refused_words() {
+    "$made/host" "$@" >"$made/host.out" 2>&1
+    [ $? -eq 2 ] && [ "$(cat "$made/host.out")" = 'usage: host [--ignore-lines] [--explain] [SEED]' ]
+}
+
+host_explains() {
+    local seed
+    explaining examples/host.c || return 1
+    for seed in 5 4 3 2 1; do
+        if ! explains "$seed" || ! lines_ignored_explained "$seed"; then
+            echo "seed $seed" >&2
+            return 1
+        fi
+    done
+    # as examples/README.md has it
+    grep '^restart 9: ' "$made/explained.said" | tee "$made/explained.out"
+    sed -n 's/^ *\(restart 9: \)/\1/p' examples/README.md | diff "$made/explained.out" - &&
+        refused_words --explian && refused_words --explain=1 && refused_words --explain 1x && refused_words ''
+}
+
+# found_out NAME: the host that was built explains wrongly, and that alone is what is found
+found_out() {
+    local status
+    explains 1
+    status=$?
+    if [ "$status" -eq 0 ] || [ ! -s "$made/explained.diff" ] || [ "$(tail -n 1 "$made/explained.out")" != 'ledgers equal registers' ]
+    then
+        echo "host that $1: not found out" >&2
+        return 1
+    fi
+}
+
+# explains_wrong NAME OLD NEW: the host with one line changed is found out
+explains_wrong() {
+    changed_host "$@" && explaining "$made/wrong_host.c" && found_out "$1"
+}
+
+# told_wrong NAME CODE: so is the host of an engine whose answer for process p is changed by this code
+told_wrong() {
+    explaining examples/host.c "-DANSWER=$2" && found_out "$1"
+}
+
+wrong_explanations() {
+    explains_wrong "names the receipt behind" 'CKPT_RECORD_AT(E, p, place)' 'CKPT_RECORD_AT(E, p, place + 1)' &&
+        explains_wrong "takes the number for the sender" 'ckpt_word(table, receipt + 1)' 'ckpt_word(table, receipt + 2)' &&
+        explains_wrong "tells of those alone that didn't fail" 'ground == CKPT_GROUND_STAYS' 'ground != CKPT_GROUND_RECEIPT' &&
+        explains_wrong "tells of all" 'if (ground == CKPT_GROUND_STAYS) continue;' '' &&
+        explains_wrong "tells the place for the position" 'state_at(ckpt_word(line, p))' 'state_at(place ? place : ckpt_word(line, p))' &&
+        explains_wrong "asks as if one alone had failed" 'ckpt_grounds(table, sizeof table, area, sizeof area, failed)' \
+            'ckpt_grounds(table, sizeof table, area, sizeof area, failed & -failed)' &&
+        explains_wrong "leaves out who failed" '"failed and " : ""' '"" : ""' &&
+        told_wrong "counts places from 0" 'if (ckpt_word(area, 2*p) == 2) put_word(area, 2*p+1, ckpt_word(area, 2*p+1) - 1)' &&
+        told_wrong "is told 1 of all that failed" 'if (mask >> p & 1) put_word(area, 2*p, 1)' &&
+        told_wrong "is told 2 of all that failed" 'if (ckpt_word(area, 2*p) == 1) put_word(area, 2*p, 2), put_word(area, 2*p+1, 1)' &&
+        told_wrong "is told that all stay" 'put_word(area, 2*p, 0)'
+}
+
 # the examples and the header's checks in hosts under sanitizers; no leak check, which needs rights that not every machine gives
 sanitized_hosts() {
     local name
     local -x ASAN_OPTIONS=detect_leaks=0
     for name in examples/worked examples/host tests/c/header; do
         host_of "$name.c" "$made/sanitized" "${sanitized[@]}" && "$made/sanitized" >"$made/sanitized.out" || return 1
+        [ "$name" != examples/host ] || "$made/sanitized" --explain >"$made/sanitized.out" || return 1
     done
 }

@@ -80,6 +80,8 @@ check "the sizes in the README" sizes_current
 check "a thousand restarts: ledgers equal registers" host_restarts
 check "lines ignored: ledgers differ" host_ignores_lines
 check "wrong hosts: ledgers differ" wrong_hosts
+check "restarts explained, line by line" host_explains
+check "wrong explanations are found out" wrong_explanations
 check "hosts under sanitizers" sanitized_hosts
 check "a table in a file across power cuts" tests/storage.sh
 check "power cuts under sanitizers" tests/storage.sh --sanitized
