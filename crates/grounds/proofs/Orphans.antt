@@ -1,6 +1,6 @@
 -- The search for the first orphan behind a position, record by record.
 use mathlib.Core.Path.{◌≡◌, refl, sym, ap, ◌∙◌, subst}
-use mathlib.Core.Bool.{Bool, true, false, cond, ◌&&◌, ◌||◌, and-false}
+use mathlib.Core.Bool.{Bool, true, false, cond, ◌&&◌, ◌||◌, and-false, or-false}
 use mathlib.Core.List.{List, [], ◌∷◌}
 use mathlib.Core.Option.{none, some}
 use Prim.Native.Nat.{ℕ, suc, ◌+◌, ◌-◌, ◌*◌, ◌%◌, ◌≤◌, ◌<◌}
@@ -34,8 +34,8 @@ use Rattle.scans.proofs.Found.{numbered_as}
 use Rattle.cuts.specs.declared.Part.{Part}
 use Rattle.cuts.specs.Parts.{positions, counts, part_at}
 use Rattle.cuts.proofs.Parts.{position_at, sends_at}
-use Rattle.cuts.proofs.Scanned.{held_length}
 use Rattle.tops.specs.Tops.{Counted}
+use Rattle.lowering.proofs.Steps.{part_held}
 use Rattle.grounds.specs.Sends.{is_send}
 
 -- ---- the first record behind a position
@@ -57,33 +57,29 @@ is_it p k (received q j c) h = false
 few_sends : (h : History) (p k : ℕ) → sends h < k → has_send h p k ≡ false
 few_sends h p k lt = rw (lt-leb k (sends h) lt, and-false (ltb 0 k))
 
-send_more : (p k : ℕ) → 0 < k → (e : Event) (h : History) → has_send (e ∷ h) p k ≡ (is_it p k e h || has_send h p k)
-send_more p k pos (basic m) h = refl
-send_more p k pos (forced m) h = refl
-send_more p k pos (received q j c) h = refl
-send_more p k pos (sent q) h = go (test (eqb (suc (sends h)) k)) (test (leb k (sends h)))
+send_more : (p k : ℕ) (e : Event) (h : History) → has_send (e ∷ h) p k ≡ (is_it p k e h || has_send h p k)
+send_more p k (basic m) h = refl
+send_more p k (forced m) h = refl
+send_more p k (received q j c) h = refl
+send_more p k (sent q) h = go (test (eqb (suc (sends h)) k)) (test (leb k (sends h)))
   where
     d : ℕ
     d = destination h k
-
-    or_none : (b : Bool) → b ≡ (b || false)
-    or_none true = refl
-    or_none false = refl
 
     go : Test (eqb (suc (sends h)) k) → Test (leb k (sends h))
         → (ltb 0 k && leb k (suc (sends h)) && eqb (cond (eqb k (suc (sends h))) q d) p)
         ≡ ((eqb (suc (sends h)) k && eqb q p) || (ltb 0 k && leb k (sends h) && eqb d p))
     go (passes x) y =
         let z = eqb-true (suc (sends h)) k x in
-        rw (x, lt-ltb 0 k pos, le-leb k (suc (sends h)) (omega arith), eq-eqb k (suc (sends h)) (sym z), lt-leb k (sends h) (omega arith)) (or_none (eqb q p))
+        rw (x, lt-ltb 0 k (omega arith), le-leb k (suc (sends h)) (omega arith), eq-eqb k (suc (sends h)) (sym z), lt-leb k (sends h) (omega arith), or-false (eqb q p))
     go (fails x) (passes y) =
         let z = eqb-false (suc (sends h)) k x in
         let l = leb-true k (sends h) y in
-        rw (x, y, lt-ltb 0 k pos, le-leb k (suc (sends h)) (omega arith), ne_eqb k (suc (sends h)) (omega arith))
+        rw (x, y, le-leb k (suc (sends h)) (omega arith), ne_eqb k (suc (sends h)) (omega arith))
     go (fails x) (fails y) =
         let z = eqb-false (suc (sends h)) k x in
         let l = leb-false k (sends h) y in
-        rw (x, y, lt-ltb 0 k pos, lt-leb k (suc (sends h)) (omega arith))
+        rw (x, y, lt-leb k (suc (sends h)) (omega arith), and-false (ltb 0 k))
 
 -- what a record's words say
 module _ (g : Records) (laid : SendsLaid (word g.bytes.now) g.at g.count) (j : ℕ) (lt : j < g.count) where
@@ -98,10 +94,10 @@ module _ (g : Records) (laid : SendsLaid (word g.bytes.now) g.at g.count) (j : �
       rw (← x, r.0)
 
   -- one record more
-  pub sender_next : (p k : ℕ) → 0 < k → (e : Read) → meant e ≡ record_of g j → Spells (word g.bytes.now) (g.at + width * j) e
+  pub sender_next : (p k : ℕ) (e : Read) → meant e ≡ record_of g j → Spells (word g.bytes.now) (g.at + width * j) e
       → has_send (first_of g (j + 1)) p k ≡ (is_send p k e || has_send (first_of g j) p k)
-  sender_next p k pos e x s =
-      rw (add-one j) (send_more p k pos (record_of g j) (first_of g j) ∙ ap (λ (b : Bool). b || has_send (first_of g j) p k) (sym (words_say p k e x s)))
+  sender_next p k e x s =
+      rw (add-one j) (send_more p k (record_of g j) (first_of g j) ∙ ap (λ (b : Bool). b || has_send (first_of g j) p k) (sym (words_say p k e x s)))
 
 -- before record k - 1 there are less than k sends
 pub sender_start : (g : Records) (p k : ℕ) → 0 < k → has_send (first_of g (k - 1)) p k ≡ false
@@ -131,34 +127,23 @@ module _ (t : Table) (cut : List Part) (C : Counted (state_of t) (positions cut)
     abbrev there : Part
     there = part_at cut (q % 16)
 
-    same : q % 16 ≡ q
-    same = let m = t.laid.3 in mod-eq_of_lt (omega arith)
-
-    inside : q < length s
-    inside = let m = processes t in omega arith
+    pub sender_part : there ≡ part_at cut q
+    sender_part = let m = t.laid.3 in ap (part_at cut) (mod-eq_of_lt (omega arith))
 
     -- where the cut has less than k sends of it
     pub sender_few : (k : ℕ) → there.sends < k → has_send (part s P q) p k ≡ false
     sender_few k lt =
-        let a = C.counted q inside in
+        let m = processes t in
+        let a = C.counted q (omega arith) in
         let b = sends_at cut q in
-        let z = ap (λ (x : ℕ). (part_at cut x).sends) same in
+        let z = ap (λ (x : Part). x.sends) sender_part in
         few_sends (part s P q) p k (omega arith)
 
     module _ (g : Records) (is : held g ≡ history s q) where
-      pub part_within : there.position ≤ g.count
-      part_within =
-          let a = position_at cut q in
-          let w = C.within q inside in
-          let n = held_length g in
-          let y = ap length is in
-          let z = ap (λ (x : ℕ). (part_at cut x).position) same in
-          omega arith
-
       part_is : part s P q ≡ first_of g there.position
       part_is =
-          let e : get_or P q 0 ≡ there.position = position_at cut q ∙ ap (λ (x : ℕ). (part_at cut x).position) (sym same) in
-          rw (e, ← is) (records_upto (word g.bytes.now) g.at there.position g.count part_within)
+          let le = (part_held t cut C q lq g is).0 in
+          rw (sender_part, position_at cut q, ← is) (records_upto (word g.bytes.now) g.at (part_at cut q).position g.count le)
 
       -- send k to p is among as many records as are in the cut, or isn't among at least as many
       pub sender_has : (j k : ℕ) → j ≤ there.position → has_send (first_of g j) p k ≡ true → has_send (part s P q) p k ≡ true
@@ -176,16 +161,6 @@ module _ (t : Table) (cut : List Part) (C : Counted (state_of t) (positions cut)
   -- ---- the receiver
 
   module _ (r : Records) (is : held r ≡ history s p) where
-    -- the position is within its records
-    pub own_within : p < t.n → (part_at cut p).position ≤ r.count
-    own_within lt =
-        let m = processes t in
-        let a = position_at cut p in
-        let w = C.within p (omega arith) in
-        let n = held_length r in
-        let y = ap length is in
-        omega arith
-
     pub search_start : p < t.n → {i : ℕ} → i ≡ (part_at cut p).position → first_after o from (first_of r i) ≡ none
     search_start lt {i} e =
         let a = position_at cut p in
@@ -197,11 +172,8 @@ module _ (t : Table) (cut : List Part) (C : Counted (state_of t) (positions cut)
       older = subst (λ (x : Event). Older (x ∷ first_of r i) (history s p)) (sym e)
           (subst (λ (x : History). Older (record_of r i ∷ first_of r i) x) is (first_older (word r.bytes.now) r.at (suc i) r.count lt))
 
-      law : Law t.n t.e p (received q k c) (first_of r i)
-      law = (each_older (Law t.n t.e p) older (lawful t p)).0
-
-      pub receipt_names : (q < t.n) × (0 < k)
-      receipt_names = let L = law in (L.0, L.2)
+      pub receipt_law : Law t.n t.e p (received q k c) (first_of r i)
+      receipt_law = (each_older (Law t.n t.e p) older (lawful t p)).0
 
       -- its send is in the cut, so that the search goes on
       pub search_on : has_send (part s P q) p k ≡ true → first_after o from (first_of r i) ≡ none → first_after o from (first_of r (i + 1)) ≡ none
@@ -215,11 +187,6 @@ module _ (t : Table) (cut : List Part) (C : Counted (state_of t) (positions cut)
           let a = position_at cut p in
           let here : first_after o from (received q k c ∷ first_of r i) ≡ some (suc (length (first_of r i))) = rw (z, x, le-leb from (length (first_of r i)) (omega arith)) in
           rw (after_older o from older here) (ap (λ (m : ℕ). 2 ∷ m ∷ []) (let v : i + 1 ≡ suc (length (first_of r i)) = omega arith in v))
-
-    -- a record that is no receipt
-    pub search_past : (i : ℕ) (e : Read) → meant e ≡ record_of r i → o (meant e) ≡ false → first_after o from (first_of r i) ≡ none
-        → first_after o from (first_of r (i + 1)) ≡ none
-    search_past i e x n z = rw (add-one i, ← x, z, n, and-false (leb from (length (first_of r i))))
 
     -- all are gone through
     pub search_none : (i : ℕ) → i ≡ r.count → first_after o from (first_of r i) ≡ none → 2 ∷ 0 ∷ [] ≡ moved_by (first_after o from (history s p))

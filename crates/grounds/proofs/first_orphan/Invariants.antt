@@ -1,4 +1,4 @@
-use Rattle.std.proofs.Common.{◌≡◌, false, get_or}
+use Rattle.std.proofs.Common.{◌≡◌, ◌≤◌, false, get_or}
 use Rattle.std.proofs.Math.Option.{none}
 use Rattle.rules.specs.Records.{has_send}
 use Rattle.rules.specs.Lines.{orphan}
@@ -9,7 +9,7 @@ use Rattle.cuts.specs.Parts.{positions}
 use Rattle.grounds.proofs.first_orphan.Given as goal
 
 abbrev pub invariant-loop-j : goal.invariant-loop-j
-invariant-loop-j l = has_send (first_of l.sender l.j) l.p l.k ≡ false
+invariant-loop-j l = (l.j-end ≤ l.sender.count) × (has_send (first_of l.sender l.j) l.p l.k ≡ false)
 
 abbrev pub invariant-search : goal.invariant-search
 invariant-search l = (l.place ≡ 0)
