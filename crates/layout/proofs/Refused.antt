@@ -10,7 +10,7 @@ use Rattle.std.specs.Prelude.{Result, Ok, Err}
 use Rattle.std.specs.Result.{IsErrAnd}
 use Rattle.refusals.specs.Refusals.{number_of, returned}
 use Rattle.refusals.specs.declared.Refusal.{Refusal}
-use Rattle.refusals.specs.declared.Refusal.TheVariants.{BadDimensions, BadTableLength, NotWellLaid, BadAreaLength, BadProcess, BadOtherProcess, NotSent, AlreadyReceived, NoRecordsLeft, NumberAtLimit, BadMask, BadPositions, AreaTooShort, BadScratch}
+use Rattle.refusals.specs.declared.Refusal.TheVariants.{BadDimensions, BadTableLength, NotWellLaid, BadAreaLength, BadProcess, BadOtherProcess, NotSent, AlreadyReceived, NoRecordsLeft, NumberAtLimit, BadMask, BadPositions, AreaTooShort, BadScratch, NoSavedState}
 
 pub not_zero : (e : Refusal) → number_of e ≢ 0
 not_zero BadDimensions = omega arith
@@ -27,6 +27,7 @@ not_zero BadMask = omega arith
 not_zero BadPositions = omega arith
 not_zero AreaTooShort = omega arith
 not_zero BadScratch = omega arith
+not_zero NoSavedState = omega arith
 
 pub refused : (rs qs : List Row) → NonZero rs → (e : Refusal) → number_of e ≡ first rs → number_of e ≡ first (rs ++ qs)
 refused rs qs w e h = stopped rs qs w h (not_zero e)

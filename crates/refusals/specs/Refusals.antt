@@ -1,7 +1,7 @@
--- The numbers that document 01 gives to its checks, and document 02 to three more.
+-- The numbers that document 01 gives to its checks, and document 02 to four more.
 use Rattle.std.specs.Prelude.{ℕ, Result, Ok, Err}
 use Rattle.refusals.specs.declared.Refusal.{Refusal}
-use Rattle.refusals.specs.declared.Refusal.TheVariants.{BadDimensions, BadTableLength, NotWellLaid, BadAreaLength, BadProcess, BadOtherProcess, NotSent, AlreadyReceived, NoRecordsLeft, NumberAtLimit, BadMask, BadPositions, AreaTooShort, BadScratch}
+use Rattle.refusals.specs.declared.Refusal.TheVariants.{BadDimensions, BadTableLength, NotWellLaid, BadAreaLength, BadProcess, BadOtherProcess, NotSent, AlreadyReceived, NoRecordsLeft, NumberAtLimit, BadMask, BadPositions, AreaTooShort, BadScratch, NoSavedState}
 
 abbrev pub number_of : Refusal → ℕ
 number_of BadDimensions = 1
@@ -18,6 +18,7 @@ number_of BadMask = 11
 number_of BadPositions = 12
 number_of AreaTooShort = 13
 number_of BadScratch = 14
+number_of NoSavedState = 15
 
 -- what a call returns: the number of its refusal, 0 where it was accepted
 abbrev pub returned : {A : Type 0} → Result A Refusal → ℕ

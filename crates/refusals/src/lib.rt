@@ -1,4 +1,4 @@
-// Why a call is refused (document 01, "Where a call is stopped"; document 02 for 12 to 14).
+// Why a call is refused (document 01, "Where a call is stopped"; document 02 for 12 to 15).
 #![tactic(auto)]
 
 ghost use Rattle.std.specs.Prelude.{◌≡◌, Result};
@@ -21,6 +21,7 @@ pub enum Refusal {
     BadPositions = 12,
     AreaTooShort = 13,
     BadScratch = 14,
+    NoSavedState = 15,
 }
 
 impl From<Refusal> for u32 {

@@ -1,11 +1,12 @@
--- Document 01, "Answer areas" and "Where a call is stopped": the outcome of each exported call, for all bytes and numbers.
+-- Document 01, "Answer areas" and "Where a call is stopped", with row 15 of document 02, slip 8: the outcome of each exported call, for
+-- all bytes and numbers.
 use Rattle.std.specs.Prelude.{Bool, true, false, not, cond, ◌||◌, List, [], ◌∷◌, ◌++◌, ℕ, suc, ◌+◌, ◌*◌, ◌^◌, leb, ltb, eqb, length}
 use Rattle.std.specs.Int.Count.{ones}
 use Rattle.xdr.specs.Words.{word, words, put_words}
 use Rattle.rules.specs.Records.{History, State, history, number, sends, carried, send_place, has_send, has_receipt}
 use Rattle.rules.specs.Table.{in_range, size, layout, fresh, decoded, well_laid}
 use Rattle.rules.specs.Steps.{Call, checkpoint, send, receipt, next_number, forces, carries, grown, stepped}
-use Rattle.rules.specs.Lines.{numbered_line, back_mask}
+use Rattle.rules.specs.Lines.{lacking, numbered_line, back_mask}
 use Rattle.rules.specs.FailureLine.{failure_line}
 
 -- ---- answers
@@ -89,9 +90,9 @@ call_rows n E s p call = row 5 (leb n p) ∷ later_rows n E s p call
 abbrev pub step_rows : ℕ → ℕ → State → ℕ → Call → ℕ → List Row
 step_rows n E s p call len = row 4 (not (eqb len (area_length call))) ∷ call_rows n E s p call
 
--- the rows of a numbered line and of a failure line from the answer area on
-abbrev pub line_rows : ℕ → ℕ → List Row
-line_rows n len = row 4 (not (eqb len (4 * n))) ∷ []
+-- the rows of numbered line N and of a failure line from the answer area on
+abbrev pub line_rows : ℕ → ℕ → State → ℕ → List Row
+line_rows n N s len = row 4 (not (eqb len (4 * n))) ∷ row 15 (lacking N s) ∷ []
 
 abbrev pub failure_rows : ℕ → ℕ → ℕ → List Row
 failure_rows n mask len = row 4 (not (eqb len (4 * n + 8))) ∷ row 11 (leb (2 ^ n) mask) ∷ []
@@ -139,7 +140,9 @@ step_on t a p call =
 
 -- numbered line N
 unfoldable pub line_on : List ℕ → List ℕ → ℕ → Outcome
-line_on t a N = judged (first (table_rows t ++ line_rows (word t 0) (length a))) t a t (numbered_line N (decoded t))
+line_on t a N =
+    let s = decoded t in
+    judged (first (table_rows t ++ line_rows (word t 0) N s (length a))) t a t (numbered_line N s)
 
 -- failure line
 unfoldable pub failed_on : List ℕ → List ℕ → ℕ → Outcome

@@ -12,5 +12,6 @@ pub mod Audit
 pub mod Worked
 pub mod WorkedResend
 pub mod WorkedGrounds
+pub mod WorkedLines
 pub mod WorkedAudit
 pub mod Text

@@ -1,4 +1,4 @@
--- Document 01, "Lines": cuts, orphans, numbered lines and failure lines.
+-- Document 01, "Lines", with document 02, slips 2 and 8: cuts, orphans, numbered lines and failure lines.
 use Rattle.std.specs.Prelude.{◌≡◌, Bool, true, false, not, cond, ◌||◌, ◌&&◌, ℕ, zero, suc, ◌+◌, ◌^◌, ◌/◌, ◌%◌, ◌≤◌, ◌<◌, leb, ltb, eqb, length, get_or}
 use mathlib.Core.List.{List, [], ◌∷◌, map, Memᴰ}
 use Rattle.std.proofs.Math.Option.{Option, none, some}
@@ -40,21 +40,28 @@ abbrev pub or_else : Option ℕ → Option ℕ → Option ℕ
 or_else (some t) o = some t
 or_else none o = o
 
--- the position of the first checkpoint with a number of N or more, the initial checkpoint included
-abbrev pub first_numbered : ℕ → History → Option ℕ
-first_numbered N [] = cond (leb N 0) (some 0) none
-first_numbered N (e ∷ h) = or_else (first_numbered N h) (cond (at_least N e) (some (suc (length h))) none)
+-- the position of the first checkpoint with a number of N or more, the initial checkpoint included, whose number is 0
+abbrev pub numbered : ℕ → History → Option ℕ
+numbered N [] = cond (leb N 0) (some 0) none
+numbered N (e ∷ h) = or_else (numbered N h) (cond (at_least N e) (some (suc (length h))) none)
 
-abbrev pub or_count : Option ℕ → ℕ → ℕ
-or_count (some t) c = t
-or_count none c = c
+abbrev pub is_none : Option ℕ → Bool
+is_none (some t) = false
+is_none none = true
 
--- that position, else the count
-abbrev pub numbered : ℕ → History → ℕ
-numbered N h = or_count (first_numbered N h) (length h)
+-- some process has no saved checkpoint of that number or more
+abbrev pub lacking : ℕ → State → Bool
+lacking N [] = false
+lacking N (h ∷ s) = is_none (numbered N h) || lacking N s
 
+-- the position that is there, else d
+abbrev pub position_or : ℕ → Option ℕ → ℕ
+position_or d (some t) = t
+position_or d none = d
+
+-- the positions of line N, which is refused where a process has none
 abbrev pub numbered_line : ℕ → State → List ℕ
-numbered_line N s = map (numbered N) s
+numbered_line N s = map (λ h. position_or 0 (numbered N h)) s
 
 -- ---- failure lines
 

@@ -81,12 +81,13 @@ AsStated cs = all_given cs ≡ all_stated cs
 pub as_stated : (cs : List Case) → sames (all_given cs) (all_stated cs) ≡ true → AsStated cs
 as_stated cs e = sames_equal (all_given cs) (all_stated cs) e
 
--- P1 to P3, lines 0, 1 and 2; P4 to P8, masks 0, 1, 2, 4 and 8; P9 and P10, two receipts
+-- P1 to P3, lines 0, 1 and 2 (document 02, slip 8: "P3 turns into a refusal"); P4 to P8, masks 0, 1, 2, 4 and 8; P9 and P10, two
+-- receipts
 abbrev pub cases : List Case
 cases =
     case (line_on worked (area 3) 0) (0 ∷ 0 ∷ 0 ∷ 0 ∷ [])
     ∷ case (line_on worked (area 3) 1) (0 ∷ 1 ∷ 2 ∷ 1 ∷ [])
-    ∷ case (line_on worked (area 3) 2) (0 ∷ 2 ∷ 4 ∷ 3 ∷ [])
+    ∷ case (line_on worked (area 3) 2) (15 ∷ [])
     ∷ case (failed_on worked (area 5) 0) (0 ∷ 2 ∷ 4 ∷ 3 ∷ 0 ∷ 0 ∷ [])
     ∷ case (failed_on worked (area 5) 1) (0 ∷ 1 ∷ 2 ∷ 1 ∷ 7 ∷ 3 ∷ [])
     ∷ case (failed_on worked (area 5) 2) (0 ∷ 2 ∷ 2 ∷ 1 ∷ 6 ∷ 2 ∷ [])
