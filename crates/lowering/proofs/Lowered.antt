@@ -10,8 +10,7 @@ use Rattle.rules.specs.Lines.{upto}
 use Rattle.rules.specs.FailureLine.{any, before, last_saved, lowered}
 use Rattle.basics.proofs.Older.{older_length}
 use Rattle.basics.proofs.Booleans.{Test, passes, fails, test}
-use Rattle.records.proofs.NumberedLines.{upto_older}
-use Rattle.records.proofs.Cuts.{upto_exact, upto_mono, before_older, last_le}
+use Rattle.records.proofs.Cuts.{upto_older, upto_exact, upto_mono, before_older, last_le}
 use Rattle.cuts.proofs.Scanned.{held_length}
 use Rattle.events.specs.declared.Records.{Records}
 use Rattle.events.specs.Events.{held, first_index}

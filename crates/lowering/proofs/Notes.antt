@@ -15,9 +15,8 @@ use Rattle.rules.specs.Lines.{upto, part}
 use Rattle.rules.specs.FailureLine.{any, before, lowered}
 use Rattle.basics.proofs.Booleans.{Test, passes, fails, test}
 use Rattle.basics.proofs.Older.{same}
-use Rattle.records.proofs.NumberedLines.{upto_older}
 use Rattle.records.proofs.Histories.{Each, each_older}
-use Rattle.records.proofs.Cuts.{upto_is_older}
+use Rattle.records.proofs.Cuts.{upto_older, upto_is_older}
 use Rattle.tables.proofs.Laid.{Law}
 use Rattle.events.specs.declared.Records.{Records}
 use Rattle.events.specs.Events.{held}

@@ -9,15 +9,22 @@ use native.Mathlib.Nat.{le_refl, le_trans}
 use native.Mathlib.Omega.{arith}
 use lib.Dec.{leb, eqb}
 use lib.ListN.{length}
-use borrow.Author.Tests.{leb-true, leb-false, eqb-true, eq-eqb, ne_eqb}
+use borrow.Author.Tests.{leb-true, leb-false, lt-leb, le-leb, eqb-true, eq-eqb, ne_eqb}
 use Rattle.rules.specs.Records.{Event, History}
 use Rattle.rules.specs.Lines.{upto, is_checkpoint, saved, permitted}
 use Rattle.rules.specs.FailureLine.{last_saved, any, before, lowered, top}
 use Rattle.basics.proofs.Older.{Older, same, newer, older_trans, older_length}
 use Rattle.basics.proofs.Booleans.{Test, passes, fails, test, or_false, clash, true_or, or_right}
-use Rattle.records.proofs.NumberedLines.{upto_older}
 
 -- ---- the first t records
+
+upto_all : (h : History) → upto (length h) h ≡ h
+upto_all [] = refl
+upto_all (e ∷ h) = rw (le-leb (suc (length h)) (suc (length h)) (le_refl (suc (length h))))
+
+pub upto_older : {g h : History} → Older g h → upto (length g) h ≡ g
+upto_older {g} same = upto_all g
+upto_older {g} (newer {e} {g = x} o) = let l = older_length o in rw (lt-leb (suc (length x)) (length g) (omega arith)) (upto_older o)
 
 pub upto_is_older : (t : ℕ) (h : History) → Older (upto t h) h
 upto_is_older t [] = same

@@ -2,8 +2,9 @@ pub mod Histories
 pub mod Rows
 pub mod Steps
 pub mod Made
-pub mod NumberedLines
 pub mod Cuts
+pub mod Splits
+pub mod NumberedLines
 pub mod FailureLines
 pub mod Masks
 pub mod Transit

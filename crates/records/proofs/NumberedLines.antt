@@ -1,168 +1,157 @@
--- A numbered line of a made state has no orphan.
-use mathlib.Core.Path.{◌≡◌, refl, sym, ap, ◌∙◌, subst}
-use mathlib.Core.Bool.{Bool, true, false, cond, ◌||◌}
-use mathlib.Core.List.Memᴰ
-use mathlib.Core.List.{[], ◌∷◌, Memᴰ}
-use Prim.Native.Nat.{ℕ, suc, ◌≤◌, ◌<◌}
-use native.Mathlib.Nat.{le_refl}
+-- Numbered lines: what the positions are, and that on a made state those of an answered line have no orphan.
+use mathlib.Core.Path.{◌≡◌, refl, sym, ap, subst, ◌∙◌}
+use mathlib.Core.Logic.{inl, inr}
+use mathlib.Core.Bool.{Bool, true, false, cond}
+use mathlib.Core.List.{[], ◌∷◌}
+use mathlib.Core.Option.{Option, none, some, none-ne-some, some-injective}
+use Prim.Native.Nat.{ℕ, zero, suc, ◌≤◌, ◌<◌}
+use native.Mathlib.Nat.{le_refl, not-suc-le-zero, le_of_suc-le-suc}
 use native.Mathlib.Omega.{arith}
-use mathlib.Core.Option.{none, some}
+use native.Mathlib.Decide.{dec_lt}
 use lib.Dec.{leb}
 use lib.ListN.{length, get_or, get_or-map}
-use borrow.Author.Tests.{leb-false, le-leb, lt-leb, eq-eqb}
-use Rattle.rules.specs.Records.{Event, basic, forced, sent, received, History, State, history, number, sends, carried, destination, has_send}
-use Rattle.rules.specs.Lines.{upto, part, orphan, NoOrphan, at_least, or_else, first_numbered, or_count, numbered, numbered_line}
-use Rattle.basics.proofs.Older.{Older, same, newer, older_length}
-use Rattle.basics.proofs.Booleans.{Test, passes, fails, test, or_false}
-use Rattle.records.proofs.Histories.{Held, carried_at, holds_held, held_holds, holds_older, send_of, each_older, Rising}
-use Rattle.records.proofs.Made.{Sound, Source, Sourced}
+use borrow.Author.Tests.{leb-true, leb-false, le-leb, eq-eqb}
+use Rattle.rules.specs.Records.{Event, basic, forced, sent, received, History, State, history, number}
+use Rattle.rules.specs.Lines.{upto, part, NoOrphan, saved, is_checkpoint, at_least, numbered, is_none, lacking, position_or, numbered_line}
+use Rattle.basics.proofs.Older.{Older, same, newer, none_older, older_of, older_trans}
+use Rattle.basics.proofs.Booleans.{Test, passes, fails, test, clash, or_false, or_right}
+use Rattle.records.proofs.Histories.{Each, each_older, Rising}
+use Rattle.records.proofs.Made.{Sound, Sourced}
+use Rattle.records.proofs.Cuts.{upto_older, upto_is_older, upto_length, saved_older}
+use Rattle.records.proofs.FailureLines.{beyond}
+use Rattle.records.proofs.Splits.{Less, Splits, less_below, split_clean}
 
--- ---- positions and older parts
+-- ---- one process
 
-upto_all : (h : History) → upto (length h) h ≡ h
-upto_all [] = refl
-upto_all (e ∷ h) = rw (le-leb (suc (length h)) (suc (length h)) (le_refl (suc (length h))))
+-- line 0 has every process at its initial checkpoint
+pub numbered_zero : (N : ℕ) → N ≡ 0 → (h : History) → numbered N h ≡ some 0
+numbered_zero N z [] = rw (le-leb N 0 (omega arith))
+numbered_zero N z (e ∷ h) = rw (numbered_zero N z h)
 
-pub upto_older : {g h : History} → Older g h → upto (length g) h ≡ g
-upto_older {g} same = upto_all g
-upto_older {g} (newer {e} {g = x} o) = let l = older_length o in rw (lt-leb (suc (length x)) (length g) (omega arith)) (upto_older o)
+-- position t is that of the first checkpoint with a number of N or more: of the initial one, or of e, behind the records g
+pub data First (N : ℕ) (h : History) : ℕ → Type 0 where
+  initial : N ≤ 0 → First N h 0
+  behind : (e : Event) (g : History) → Older (e ∷ g) h → at_least N e ≡ true → numbered N g ≡ none → First N h (suc (length g))
 
--- some checkpoint, the initial one included, has a number of N or more
-abbrev pub reached : ℕ → History → Bool
-reached N [] = leb N 0
-reached N (e ∷ h) = at_least N e || reached N h
+first_later : {N : ℕ} {h : History} {t : ℕ} (e : Event) → First N h t → First N (e ∷ h) t
+first_later e (initial le) = initial le
+first_later e (behind x g o y z) = behind x g (newer o) y z
 
--- what a numbered line keeps of a history
-abbrev pub line_of : ℕ → History → History
-line_of N [] = []
-line_of N (e ∷ h) = cond (reached N h) (line_of N h) (e ∷ h)
-
-pub line_older : (N : ℕ) (h : History) → Older (line_of N h) h
-line_older N [] = same
-line_older N (e ∷ h) = go (reached N h) (line_older N h)
+first_at : (N : ℕ) (h : History) (t : ℕ) → numbered N h ≡ some t → First N h t
+first_at N [] t x = go (test (leb N 0))
   where
-    go : (b : Bool) → Older (line_of N h) h → Older (cond b (line_of N h) (e ∷ h)) (e ∷ h)
-    go true o = newer o
-    go false o = same
-
-line_all : (N : ℕ) (h : History) → reached N h ≡ false → line_of N h ≡ h
-line_all N [] e = refl
-line_all N (x ∷ h) e = rw (or_false (at_least N x) (reached N h) e).1
-
--- the first checkpoint with a number of N or more is where the line stops, if it is there
-first_is : (N : ℕ) (h : History) → first_numbered N h ≡ cond (reached N h) (some (length (line_of N h))) none
-first_is N [] = refl
-first_is N (e ∷ h) = rw (first_is N h) (go (reached N h) (at_least N e))
+    go : Test (leb N 0) → First N [] t
+    go (passes y) = subst (First N []) (some-injective 0 t (rw y at x)) (initial (leb-true N 0 y))
+    go (fails y) = absurd (none-ne-some t (rw y at x))
+first_at N (e ∷ h) t x = go (numbered N h) refl (test (at_least N e)) (first_at N h t)
   where
-    go : (b a : Bool)
-        → or_else (cond b (some (length (line_of N h))) none) (cond a (some (suc (length h))) none)
-        ≡ cond (a || b) (some (length (cond b (line_of N h) (e ∷ h)))) none
-    go true true = refl
-    go true false = refl
-    go false true = refl
-    go false false = refl
+    go : (o : Option ℕ) → numbered N h ≡ o → Test (at_least N e) → (numbered N h ≡ some t → First N h t) → First N (e ∷ h) t
+    go (some i) f b r = let z : some i ≡ some t = (rw f at x) in first_later e (r (f ∙ z))
+    go none f (passes b) r = subst (First N (e ∷ h)) (some-injective (suc (length h)) t (rw (f, b) at x)) (behind e h same b f)
+    go none f (fails b) r = absurd (none-ne-some t (rw (f, b) at x))
 
-line_length : (N : ℕ) (h : History) → numbered N h ≡ length (line_of N h)
-line_length N h = rw (first_is N h) (go (test (reached N h)))
+none_cons : (N : ℕ) (e : Event) (h : History) → numbered N (e ∷ h) ≡ none → (numbered N h ≡ none) × (at_least N e ≡ false)
+none_cons N e h x = go (numbered N h) refl (test (at_least N e))
   where
-    go : Test (reached N h) → or_count (cond (reached N h) (some (length (line_of N h))) none) (length h) ≡ length (line_of N h)
-    go (passes x) = rw x
-    go (fails x) = rw (x, line_all N h x)
+    go : (o : Option ℕ) → numbered N h ≡ o → Test (at_least N e) → (numbered N h ≡ none) × (at_least N e ≡ false)
+    go (some i) f b = absurd (none-ne-some i (sym (rw f at x)))
+    go none f (passes b) = absurd (none-ne-some (suc (length h)) (sym (rw (f, b) at x)))
+    go none f (fails b) = (f, b)
 
--- one more record leaves the position where it is, once such a checkpoint is reached
-pub numbered_cons : (N : ℕ) (e : Event) (h : History) → numbered N (e ∷ h) ≡ cond (reached N h) (numbered N h) (suc (length h))
-numbered_cons N e h = rw (line_length N (e ∷ h), line_length N h) (go (reached N h))
+older_none : (N : ℕ) {g h : History} → Older g h → numbered N h ≡ none → numbered N g ≡ none
+older_none N same x = x
+older_none N (newer {e} {g = y} o) x = older_none N o (none_cons N e y x).0
+
+-- a process without such a checkpoint has a smaller number
+none_below : (N : ℕ) (h : History) → numbered N h ≡ none → number h < N
+none_below N [] x = go (test (leb N 0))
   where
-    go : (b : Bool) → length (cond b (line_of N h) (e ∷ h)) ≡ cond b (length (line_of N h)) (suc (length h))
+    go : Test (leb N 0) → 0 < N
+    go (passes y) = absurd (none-ne-some 0 (sym (rw y at x)))
+    go (fails y) = leb-false N 0 y
+none_below N (basic m ∷ h) x = leb-false N m (none_cons N (basic m) h x).1
+none_below N (forced m ∷ h) x = leb-false N m (none_cons N (forced m) h x).1
+none_below N (sent q ∷ h) x = none_below N h (none_cons N (sent q) h x).0
+none_below N (received q k c ∷ h) x = none_below N h (none_cons N (received q k c) h x).0
+
+-- what such a checkpoint is
+at_least_is : (N : ℕ) (e : Event) (h : History) → at_least N e ≡ true → (is_checkpoint e ≡ true) × (N ≤ number (e ∷ h))
+at_least_is N (basic m) h x = (refl, leb-true N m x)
+at_least_is N (forced m) h x = (refl, leb-true N m x)
+at_least_is N (sent q) h x = clash false x refl
+at_least_is N (received q k c) h x = clash false x refl
+
+module _ {N : ℕ} {h : History} where
+  pub first_saved : {t : ℕ} → First N h t → saved h t ≡ true
+  first_saved (initial le) = saved_older (none_older h) 0 (omega arith)
+  first_saved (behind e g o y z) =
+      saved_older o (suc (length g)) (le_refl (suc (length g)))
+      ∙ rw (eq-eqb (suc (length g)) (suc (length g)) refl) (at_least_is N e g y).0
+
+  pub first_enough : {t : ℕ} → First N h t → N ≤ number (upto t h)
+  first_enough (initial le) = rw (upto_older (none_older h)) le
+  first_enough (behind e g o y z) = rw (upto_older o) (at_least_is N e g y).1
+
+  -- before it every number was smaller
+  pub first_before : {t : ℕ} → First N h t → (u : ℕ) → u < t → number (upto u h) < N
+  first_before (initial le) u lt = absurd (omega arith)
+  first_before (behind e g o y z) u lt =
+      let l = upto_length u h in
+      none_below N (upto u h) (older_none N (older_of (upto_is_older u h) (older_trans (newer same) o) (omega arith)) z)
+
+  -- receipts before it carried less
+  first_low : {t : ℕ} (s : State) (p : ℕ) → Rising h → Sourced s p h → First N h t → Each (Less N) (upto t h)
+  first_low s p r S (initial le) = rw (upto_older (none_older h)) tt
+  first_low s p r S (behind e g o y z) =
+      rw (upto_older o) (newest e (each_older _ o r) (each_older _ o S) (at_least_is N e g y).0)
+    where
+      newest : (e : Event) → Rising (e ∷ g) → Sourced s p (e ∷ g) → is_checkpoint e ≡ true → Each (Less N) (e ∷ g)
+      newest (basic m) r S x = (tt, less_below N s p g r.1 S.1 (none_below N g z))
+      newest (forced m) r S x = (tt, less_below N s p g r.1 S.1 (none_below N g z))
+      newest (sent q) r S x = clash false x refl
+      newest (received q k c) r S x = clash false x refl
+
+-- ---- all processes
+
+pub position : (N : ℕ) (s : State) (p : ℕ) → get_or (numbered_line N s) p 0 ≡ position_or 0 (numbered N (history s p))
+position N s p =
+    ap (get_or (numbered_line N s) p) (sym (go (leb N 0))) ∙ get_or-map (λ h. position_or 0 (numbered N h)) s p []
+  where
+    go : (b : Bool) → position_or 0 (cond b (some 0) none) ≡ 0
     go true = refl
     go false = refl
 
-pub numbered_le : (N : ℕ) (h : History) → numbered N h ≤ length h
-numbered_le N h = subst (λ (x : ℕ). x ≤ length h) (sym (line_length N h)) (older_length (line_older N h))
+-- one process without such a checkpoint is enough
+pub lacked : (N : ℕ) (s : State) (p : ℕ) → p < length s → numbered N (history s p) ≡ none → lacking N s ≡ true
+lacked N [] p lt x = absurd (not-suc-le-zero lt)
+lacked N (h ∷ s) zero lt x = rw x
+lacked N (h ∷ s) (suc p) lt x = or_right (is_none (numbered N h)) (lacking N s) (lacked N s p (le_of_suc-le-suc lt) x)
 
-pub position : (N : ℕ) (s : State) (p : ℕ) → get_or (numbered_line N s) p 0 ≡ numbered N (history s p)
-position N s p = ap (get_or (numbered_line N s) p) (sym (go (leb N 0))) ∙ get_or-map (numbered N) s p []
+-- and where each has one, none lacks it
+pub none_lacks : (N : ℕ) (s : State) (f : ℕ → ℕ) → ((p : ℕ) → p < length s → numbered N (history s p) ≡ some (f p)) → lacking N s ≡ false
+none_lacks N [] f x = refl
+none_lacks N (h ∷ s) f x = rw (x 0 (omega arith)) (none_lacks N s (λ p. f (suc p)) (λ p lt. x (suc p) (omega arith)))
+
+-- a line that is answered has a position of each process
+answered_at : (N : ℕ) (s : State) → lacking N s ≡ false → (p : ℕ) → p < length s → numbered N (history s p) ≡ some (get_or (numbered_line N s) p 0)
+answered_at N [] x p lt = absurd (not-suc-le-zero lt)
+answered_at N (h ∷ s) x zero lt = go (numbered N h) refl
   where
-    go : (b : Bool) → or_count (cond b (some 0) none) 0 ≡ 0
-    go true = refl
-    go false = refl
+    go : (o : Option ℕ) → numbered N h ≡ o → numbered N h ≡ some (position_or 0 (numbered N h))
+    go (some t) f = rw f
+    go none f = clash true refl (rw f at (or_false (is_none (numbered N h)) (lacking N s) x).0)
+answered_at N (h ∷ s) x (suc p) lt = answered_at N s (or_false (is_none (numbered N h)) (lacking N s) x).1 p (le_of_suc-le-suc lt)
 
-pub part_line : (N : ℕ) (s : State) (p : ℕ) → part s (numbered_line N s) p ≡ line_of N (history s p)
-part_line N s p = rw (position N s p, line_length N (history s p)) (upto_older (line_older N (history s p)))
+pub line_first : (N : ℕ) (s : State) → lacking N s ≡ false → (p : ℕ) → p < length s → First N (history s p) (get_or (numbered_line N s) p 0)
+line_first N s x p lt = first_at N (history s p) (get_or (numbered_line N s) p 0) (answered_at N s x p lt)
 
--- ---- checkpoints with a number of N or more
-
-below_reached : (N : ℕ) (h : History) → reached N h ≡ false → number h < N
-below_reached N [] e = leb-false N 0 e
-below_reached N (basic m ∷ h) e = leb-false N m (or_false (leb N m) (reached N h) e).0
-below_reached N (forced m ∷ h) e = leb-false N m (or_false (leb N m) (reached N h) e).0
-below_reached N (sent q ∷ h) e = below_reached N h e
-below_reached N (received q k c ∷ h) e = below_reached N h e
-
-reached_below : (N : ℕ) (h : History) → Rising h → number h < N → reached N h ≡ false
-reached_below N [] r lt = lt-leb N 0 lt
-reached_below N (basic m ∷ h) r lt = let a = r.0 in rw (lt-leb N m lt) (reached_below N h r.1 (omega arith))
-reached_below N (forced m ∷ h) r lt = let a = r.0 in rw (lt-leb N m lt) (reached_below N h r.1 (omega arith))
-reached_below N (sent q ∷ h) r lt = reached_below N h r.1 lt
-reached_below N (received q k c ∷ h) r lt = reached_below N h r.1 lt
-
--- before the newest record of a line's part no such checkpoint is reached
-abbrev Unreached : ℕ → History → Type 0
-Unreached N [] = Unit {0}
-Unreached N (e ∷ h) = reached N h ≡ false
-
-unreached_tail : (N : ℕ) (h : History) → reached N h ≡ false → Unreached N h
-unreached_tail N [] e = tt
-unreached_tail N (x ∷ h) e = (or_false (at_least N x) (reached N h) e).1
-
-line_unreached : (N : ℕ) (h : History) → Unreached N (line_of N h)
-line_unreached N [] = tt
-line_unreached N (e ∷ h) = go (test (reached N h)) (line_unreached N h)
+pub line_clean : (n E : ℕ) (s : State) → Sound n E s → (N : ℕ) → lacking N s ≡ false → NoOrphan s (numbered_line N s)
+line_clean n E s M N x = split_clean n E s M N (numbered_line N s) (λ p. go p (dec_lt p (length s)))
   where
-    go : Test (reached N h) → Unreached N (line_of N h) → Unreached N (cond (reached N h) (line_of N h) (e ∷ h))
-    go (passes x) u = rw x u
-    go (fails x) u = rw x x
-
--- a part before which none is reached is kept
-line_keeps : (N : ℕ) {g h : History} → Older g h → reached N g ≡ false → Older g (line_of N h)
-line_keeps N {g = []} same e = same
-line_keeps N {g = x ∷ g} same e = rw (or_false (at_least N x) (reached N g) e).1 same
-line_keeps N {g} (newer {e = x} {g = y} o) e = go (test (reached N y)) (line_keeps N o e)
-  where
-    go : Test (reached N y) → Older g (line_of N y) → Older g (cond (reached N y) (line_of N y) (x ∷ y))
-    go (passes t) k = rw t k
-    go (fails t) k = rw t (newer o)
-
--- ---- no orphan
-
-module _ (n E : ℕ) (s : State) (M : Sound n E s) (N : ℕ) where
-  -- the send of a message that carries less than N is in the line
-  send_kept : (p q k c : ℕ) → has_send (history s q) p k ≡ true → carried (history s q) k ≤ c → c < N → has_send (line_of N (history s q)) p k ≡ true
-  send_kept p q k c e le lt =
-      let h = history s q in
-      let H = holds_held h p k e in
-      let S = send_of h k H.positive H.counted in
-      let R : Rising (sent (destination h k) ∷ S.rest) = each_older _ S.there (M.rising q) in
-      let y = S.rank in
-      let x = carried_at S.there y in
-      let u : reached N S.rest ≡ false = reached_below N S.rest R.1 (omega arith) in
-      let held : Held (sent (destination h k) ∷ S.rest) p k =
-      record { positive = H.positive; counted = omega arith; to = rw (eq-eqb k (suc (sends S.rest)) y) H.to }
-      in
-      holds_older (line_keeps N S.there u) p k (held_holds (sent (destination h k) ∷ S.rest) p k held)
-
-  here : (p : ℕ) (e : Event) (h : History) → Source s p e h → reached N h ≡ false → orphan s (numbered_line N s) p e ≡ false
-  here p (basic m) h S u = refl
-  here p (forced m) h S u = refl
-  here p (sent q) h S u = refl
-  here p (received q k c) h S u = rw (part_line N s q, send_kept p q k (number h) S.0 (let x = S.1 in let y = S.2 in omega arith) (below_reached N h u))
-
-  clean_part : (p : ℕ) (h : History) → Sourced s p h → Unreached N h → (e : Event) → Memᴰ e h → orphan s (numbered_line N s) p e ≡ false
-  clean_part p [] S u e m = absurd (Memᴰ.not-nil m)
-  clean_part p (x ∷ h) S u e (Memᴰ.head eq) = rw eq (here p x h S.0 u)
-  clean_part p (x ∷ h) S u e (Memᴰ.tail m) = clean_part p h S.1 (unreached_tail N h u) e m
-
-  pub line_clean : NoOrphan s (numbered_line N s)
-  line_clean p e m =
-      clean_part p (line_of N (history s p)) (each_older (Source s p) (line_older N (history s p)) (M.sourced p)) (line_unreached N (history s p)) e
-      (rw part_line at m)
+    go : (p : ℕ) → Dec (p < length s) → Splits N (history s p) (part s (numbered_line N s) p)
+    go p (yes lt) =
+        let F = line_first N s x p lt in
+        record { low = first_low s p (M.rising p) (M.sourced p) F; high = inl (first_enough F) }
+    go p (no ge) =
+        let z = beyond s p (omega arith) in
+        rw z (record { low = tt; high = inr refl })

@@ -19,7 +19,7 @@ use Rattle.rules.specs.Steps.{checkpoint, send, receipt, next_number, grown}
 use Rattle.rules.specs.Lines.{upto}
 use Rattle.basics.proofs.Older.{Older, older_length, older_of, older_whole}
 use Rattle.records.proofs.Histories.{at_older, holds_held}
-use Rattle.records.proofs.NumberedLines.{upto_older}
+use Rattle.records.proofs.Cuts.{upto_older}
 use Rattle.records.proofs.Steps.{each_step}
 use Rattle.tables.proofs.Laid.{sends_length}
 use Rattle.tables.proofs.Scans.{records_upto, first_older}

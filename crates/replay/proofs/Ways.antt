@@ -11,7 +11,7 @@ use Rattle.rules.specs.Lines.{upto}
 use Rattle.basics.proofs.Older.{Older, older_trans, older_length, older_whole}
 use Rattle.basics.proofs.Booleans.{Test, passes, fails, test}
 use Rattle.records.proofs.Histories.{holds_held, held_holds, send_of, each_older}
-use Rattle.records.proofs.NumberedLines.{upto_older}
+use Rattle.records.proofs.Cuts.{upto_older}
 use Rattle.tables.proofs.Ranges.{product}
 use Rattle.tables.proofs.Laid.{Law, legal_number}
 use Rattle.runs.proofs.Turns as runs

@@ -313,3 +313,10 @@ module _ (n E : ℕ) (d : InRange n E) (s : State) (M : Sound n E s) where
   pub layout_decoded : decoded (layout n E s) ≡ s
   unfolding decoded
   layout_decoded = rw (layout_n ∙ sym M.size, layout_e) (sections_read E (word (layout n E s)) s 0 M.short sections_place)
+
+  -- the number in a section's heading
+  pub layout_number : (p : ℕ) → p < n → word (layout n E s) (start E p + 1) ≡ number (history s p)
+  layout_number p lt =
+      let m = M.size in
+      subst (λ (i : ℕ). At (word (layout n E s)) (start E i) (section_words E (history s p))) (zero-add p)
+      (sections_split E (word (layout n E s)) s 0 M.short sections_place p (omega arith)) 1 (omega arith)

@@ -11,8 +11,7 @@ use Rattle.rules.specs.Records.{History, State, history, sends}
 use Rattle.rules.specs.Lines.{upto, failed}
 use Rattle.rules.specs.FailureLine.{last_saved, top}
 use Rattle.basics.proofs.Older.{same}
-use Rattle.records.proofs.NumberedLines.{upto_older}
-use Rattle.records.proofs.Cuts.{top_le, top_permitted, top_latest}
+use Rattle.records.proofs.Cuts.{upto_older, top_le, top_permitted, top_latest}
 use Rattle.events.specs.declared.Records.{Records}
 use Rattle.events.specs.Events.{held}
 use Rattle.cuts.specs.declared.Part.{Part}
