@@ -1,7 +1,7 @@
 -- What is found among a process's records.
 use mathlib.Core.Path.{◌≡◌, refl, sym, ap, subst, ◌∙◌}
 use mathlib.Core.Logic.{◌≢◌}
-use mathlib.Core.Bool.{Bool, true, false, cond, ◌&&◌, ◌||◌, or-true, false≢true}
+use mathlib.Core.Bool.{Bool, true, false, cond, ◌&&◌, ◌||◌, false≢true}
 use mathlib.Core.List.{[], ◌∷◌}
 use Prim.Native.Nat.{ℕ, suc, ◌+◌, ◌*◌, ◌≤◌, ◌<◌}
 use native.Mathlib.Numerals.{add-one}
@@ -9,10 +9,11 @@ use native.Mathlib.Omega.{arith}
 use lib.Dec.{eqb, leb, ltb}
 use lib.ListN.{length}
 use borrow.Author.Tests.{lt-ltb, le-leb, lt-leb, eqb-true}
+use mathlib.Core.Option.{none, some}
 use Rattle.std.specs.Prelude.{Some, None}
 use Rattle.rules.specs.Records.{Event, basic, forced, sent, received, History, number, sends, has_receipt}
 use Rattle.rules.specs.Table.{width, event_at, records_at}
-use Rattle.rules.specs.Lines.{at_least, numbered}
+use Rattle.rules.specs.Lines.{at_least, or_else, numbered}
 use Rattle.rules.specs.FailureLine.{any, before}
 use Rattle.events.specs.declared.Event.TheVariants as event
 use Rattle.events.specs.Events.{Spells, first_index}
@@ -23,55 +24,44 @@ use Rattle.basics.proofs.Older.{Older}
 use Rattle.basics.proofs.Booleans.{Test, passes, fails, test, false_right}
 use Rattle.records.proofs.Cuts.{before_all}
 use Rattle.records.proofs.Histories.{sends_older, of_send_at, carried_at}
-use Rattle.records.proofs.NumberedLines.{reached, numbered_cons, numbered_le}
 use Rattle.tables.proofs.WellLaid.{records_length}
 use Rattle.tables.proofs.Scans.{event as of_event, first_older, sends_at_most}
 
 -- ---- the position of the first checkpoint with number N or more
 
-module _ (N : ℕ) where
-  pub numbered_zero : N ≡ 0 → (h : History) → 0 ≡ numbered N h
-  numbered_zero z [] = let l = numbered_le N [] in omega arith
-  numbered_zero z (e ∷ h) = numbered_zero z h ∙ sym (numbered_cons N e h ∙ rw (all h))
+module _ (N : ℕ) (pos : N ≢ 0) where
+  numbered_any : (h : History) → numbered N h ≡ cond (any (at_least N) h) (some (suc (length (before (at_least N) h)))) none
+  numbered_any [] = rw (lt-leb N 0 (omega arith))
+  numbered_any (e ∷ h) = rw (numbered_any h) (go (at_least N e) (test (any (at_least N) h)))
     where
-      all : (g : History) → reached N g ≡ true
-      all [] = le-leb N 0 (omega arith)
-      all (x ∷ g) = rw (all g) (or-true (at_least N x))
+      o : Event → Bool
+      o = at_least N
 
-  module _ (pos : N ≢ 0) where
-    reached_any : (h : History) → reached N h ≡ any (at_least N) h
-    reached_any [] = lt-leb N 0 (omega arith)
-    reached_any (e ∷ h) = ap (λ (b : Bool). at_least N e || b) (reached_any h)
+      go : (x : Bool) → Test (any o h)
+          → or_else (cond (any o h) (some (suc (length (before o h)))) none) (cond x (some (suc (length h))) none)
+          ≡ cond (x || any o h) (some (suc (length (cond (x || any o h) (before o h) (e ∷ h))))) none
+      go true (passes y) = rw y
+      go false (passes y) = rw y
+      go true (fails y) = rw (y, before_all o h y)
+      go false (fails y) = rw y
 
-    numbered_any : (h : History) → numbered N h ≡ cond (any (at_least N) h) (suc (length (before (at_least N) h))) (length h)
-    numbered_any [] = let l = numbered_le N [] in omega arith
-    numbered_any (e ∷ h) = numbered_cons N e h ∙ rw (reached_any h) (go (at_least N e) (test (any (at_least N) h)) (numbered_any h))
+  -- what the search for it says
+  module _ (h : History) where
+    pub position_found : {i : ℕ} → Some i ≡ first_index (at_least N) h → numbered N h ≡ some (i + 1)
+    position_found {i} e = go (test (any (at_least N) h))
       where
-        o : Event → Bool
-        o = at_least N
+        go : Test (any (at_least N) h) → numbered N h ≡ some (i + 1)
+        go (passes t) =
+            let f = rw t at e in
+            numbered_any h ∙ rw t (ap some (let z : length (before (at_least N) h) ≡ i = cc in ap suc z ∙ sym (add-one i)))
+        go (fails t) = let f = rw t at e in absurd (let z : ⊥ = cc in z)
 
-        go : (x : Bool) → Test (any o h) → numbered N h ≡ cond (any o h) (suc (length (before o h))) (length h)
-            → cond (any o h) (numbered N h) (suc (length h)) ≡ cond (x || any o h) (suc (length (cond (x || any o h) (before o h) (e ∷ h)))) (suc (length h))
-        go true (passes y) r = rw y (rw y at r)
-        go false (passes y) r = rw y (rw y at r)
-        go true (fails y) r = rw (y, before_all o h y)
-        go false (fails y) r = rw y
-
-    -- what the search for it says
-    module _ (h : History) where
-      pub position_found : {i : ℕ} → Some i ≡ first_index (at_least N) h → i + 1 ≡ numbered N h
-      position_found {i} e = go (test (any (at_least N) h))
-        where
-          go : Test (any (at_least N) h) → i + 1 ≡ numbered N h
-          go (passes t) = let f = rw t at e in add-one i ∙ sym (numbered_any h ∙ rw t (ap suc (let z : length (before (at_least N) h) ≡ i = cc in z)))
-          go (fails t) = let f = rw t at e in absurd (let z : ⊥ = cc in z)
-
-      pub position_none : None ≡ first_index (at_least N) h → length h ≡ numbered N h
-      position_none e = go (test (any (at_least N) h))
-        where
-          go : Test (any (at_least N) h) → length h ≡ numbered N h
-          go (passes t) = let f = rw t at e in absurd (let z : ⊥ = cc in z)
-          go (fails t) = sym (numbered_any h ∙ rw t)
+    pub position_none : None ≡ first_index (at_least N) h → numbered N h ≡ none
+    position_none e = go (test (any (at_least N) h))
+      where
+        go : Test (any (at_least N) h) → numbered N h ≡ none
+        go (passes t) = let f = rw t at e in absurd (let z : ⊥ = cc in z)
+        go (fails t) = numbered_any h ∙ rw t
 
 -- ---- a receipt of (q, k)
 

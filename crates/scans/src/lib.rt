@@ -1,7 +1,8 @@
 // What is looked for among the records of one process.
 #![tactic(auto)]
 
-ghost use Rattle.std.specs.Prelude.{◌≡◌, ◌≤◌};
+ghost use Rattle.std.specs.Prelude.{◌≡◌, ◌≤◌, MatchOption, IfSome};
+ghost use Rattle.std.proofs.Math.Option.{none, some};
 ghost use Rattle.xdr.specs.Words.{word};
 ghost use Rattle.rules.specs.Records.{has_receipt};
 ghost use Rattle.tables.specs.Sections.{SendsLaid};
@@ -86,17 +87,15 @@ impl Test for AtLeast {
     }
 }
 
-// The position of the first checkpoint with number m or more, else the count of records.
-#[tactic(auto, using(crate::proofs::Found::numbered_zero, crate::proofs::Found::position_found, crate::proofs::Found::position_none, tables::proofs::WellLaid::records_length))]
-pub fn position(records: &Records, m: usize) -> usize
-    ensures position { result ≡ numbered m (held records.now) }
-    ensures within { result ≤ records.now.count }
+// The position of the first checkpoint with number m or more, the initial one included, if there is one.
+#[tactic(auto, using(records::proofs::NumberedLines::numbered_zero, crate::proofs::Found::position_found, crate::proofs::Found::position_none))]
+pub fn position(records: &Records, m: usize) -> Option<usize>
+    ensures position { MatchOption result (numbered m (held records.now) ≡ none) (λ t. numbered m (held records.now) ≡ some t) }
+    ensures within { IfSome result (λ t. t ≤ records.now.count) }
 {
     if m == 0 {
-        return 0;
+        return Some(0);
     }
-    match records.first(&AtLeast { number: m }) {
-        Some(i) => i + 1,
-        None => records.count,
-    }
+    let i = records.first(&AtLeast { number: m })?;
+    Some(i + 1)
 }
