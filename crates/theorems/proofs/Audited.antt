@@ -3,33 +3,31 @@ use mathlib.Core.Path.{◌≡◌, refl, sym, ap, ◌∙◌, subst, subst₂}
 use mathlib.Core.Logic.{◌≢◌, ◌↔◌}
 use mathlib.Core.Bool.{Bool, true, false, not, cond}
 use mathlib.Core.List.{List, [], ◌∷◌, ◌++◌}
-use Prim.Native.Nat.{ℕ, ◌*◌}
+use Prim.Native.Nat.{ℕ}
 use native.Mathlib.Omega.{arith}
 use lib.Dec.{eqb}
 use lib.ListN.{length}
 use borrow.Author.Tests.{eq-eqb, ne_eqb, eqb-true, le-leb, not-false}
-use Rattle.xdr.specs.Words.{word, words, bytes}
-use Rattle.xdr.proofs.Words.{word_bytes, words_bytes}
+use Rattle.xdr.specs.Words.{word, bytes}
+use Rattle.xdr.proofs.Words.{word_bytes}
 use Rattle.xdr.proofs.Puts.{whole_put}
 use Rattle.rules.specs.Records.{State}
 use Rattle.rules.specs.Table.{in_range, size, layout, fresh, decoded}
 use Rattle.rules.specs.Steps.{Call}
-use Rattle.rules.specs.Lines.{NoOrphan, numbered_line}
-use Rattle.rules.specs.Calls.{Outcome, Row, row, first, table_rows, outcome, outcome_with, fresh_on, step_on, line_on}
+use Rattle.rules.specs.Calls.{Outcome, Row, row, first, table_rows, outcome_with, fresh_on, step_on}
 use Rattle.rules.specs.Lists.{Entry, entry, entry_on, table_after, MadeByCalls, check, accepts, after, run, said_all}
 use Rattle.rules.specs.Audit.{audit_rows, audited, audit_on}
-use Rattle.theorems.specs.TwoLists.{AfterList}
+use Rattle.theorems.specs.TwoLists.{Lined, AfterList}
 use Rattle.theorems.specs.Audited.{NoneRefused, Made, Exact, AuditExact, Has, AuditHas, OneReading}
 use Rattle.basics.proofs.Booleans.{Test, passes, fails, test, clash}
 use Rattle.records.proofs.Rows.{none_met, first_append, first_none, split_zero, stopped, judged_returned, judged_stop_with}
 use Rattle.records.proofs.Made.{Sound, never_ten}
-use Rattle.records.proofs.NumberedLines.{line_clean}
 use Rattle.tables.proofs.Laid.{layout_n, layout_e, layout_length}
 use Rattle.tables.proofs.Ranges.{InRange, in_range_lem}
 use Rattle.runs.proofs.Ways.{sound}
 use Rattle.runs.proofs.Tables.{MadeTable, audited_table}
 use Rattle.theorems.proofs.SameCalls.{said_returned}
-use Rattle.theorems.proofs.Demand3.{entry_said, line_said, small_line, Holds, made_holds, two_lists}
+use Rattle.theorems.proofs.Demand3.{entry_said, lined, Holds, made_holds, two_lists}
 use Rattle.theorems.proofs.BilledOnce.{billed_once}
 
 -- ---- the refused entries of a list may be left out
@@ -209,16 +207,6 @@ module _ (t : List ℕ) (C : MadeByCalls (word t 0) (word t 1) t) where
   held : Sound n E (decoded t)
   held = sound H.made
 
-  line_lem : (N : ℕ) (area : List ℕ) → length area ≡ 4 * n → line_on t area N ≡ outcome 0 t (bytes (numbered_line N (decoded t)))
-  line_lem N area l =
-      subst (λ (x : List ℕ). line_on x area N ≡ outcome 0 x (bytes (numbered_line N (decoded t)))) (sym H.is)
-      (line_said n E H.range (decoded t) held N area l)
-
-  clean_lem : (N : ℕ) (area : List ℕ) → length area ≡ 4 * n → NoOrphan (decoded t) (words (line_on t area N).area)
-  clean_lem N area l =
-      rw (line_lem N area l, words_bytes (numbered_line N (decoded t)) (small_line n E H.range N (decoded t) held.short))
-      (line_clean n E (decoded t) held N)
-
   unmet_lem : (area : List ℕ) (p : ℕ) (call : Call) → (step_on t area p call).returned ≢ 10
   unmet_lem area p call x =
       let e = entry p call area in
@@ -232,8 +220,7 @@ module _ (t : List ℕ) (C : MadeByCalls (word t 0) (word t 1) t) where
   has : Has t
   has = record {
     made = C;
-    lined = line_lem;
-    clean = clean_lem;
+    lined = subst (λ (x : List ℕ). Lined n x (decoded t)) (sym H.is) (lined n E H.range (decoded t) held);
     unmet = unmet_lem;
     restarts = billed_once n E t C;
     further = λ l. calls_more n E t l C;

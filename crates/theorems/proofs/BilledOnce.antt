@@ -19,7 +19,7 @@ use Rattle.basics.proofs.Booleans.{Test, passes, fails, test, clash, false_left,
 use Rattle.basics.proofs.Sums.{sum_same, sum_none, sum_one, pairs_same, pairs_add, pairs_none, pairs_one, pairs_swap}
 use Rattle.rules.specs.Records.{basic, forced, sent, received, History, State, history, sends, destination, has_send, has_receipt}
 use Rattle.rules.specs.Table.{layout, decoded}
-use Rattle.rules.specs.Lines.{part, NoOrphan, failed, numbered, numbered_line}
+use Rattle.rules.specs.Lines.{part, NoOrphan, failed, numbered_line}
 use Rattle.rules.specs.FailureLine.{sum}
 use Rattle.rules.specs.Calls.{Outcome, first, table_rows, line_on, failed_on}
 use Rattle.rules.specs.Resend.{got, in_transit}
@@ -29,14 +29,14 @@ use Rattle.theorems.specs.BilledOnce.{amount_received, amount_listed, all_sent, 
 use Rattle.records.proofs.Histories.{Held, holds_held, Each, each_older}
 use Rattle.records.proofs.Made.{New, Sound}
 use Rattle.records.proofs.Cuts.{upto_is_older, permitted_le}
-use Rattle.records.proofs.NumberedLines.{position, numbered_le, line_clean}
+use Rattle.records.proofs.NumberedLines.{line_clean}
 use Rattle.records.proofs.Rows.{first_none}
 use Rattle.records.proofs.Transit.{part_beyond, sends_within, receipt_there, sum_transit}
 use Rattle.tables.proofs.WellLaid.{decoded_count}
 use Rattle.runs.proofs.Ways.{sound}
 use Rattle.theorems.proofs.SentAgain.{at_cut, list_is}
 use Rattle.theorems.proofs.Demand2.{latest}
-use Rattle.theorems.proofs.Demand3.{unmet_rows, line_said, Holds, made_holds}
+use Rattle.theorems.proofs.Demand3.{unmet_rows, line_within, line_answered, Holds, made_holds}
 
 -- ---- the receipts of a history, as a sum over messages
 
@@ -211,13 +211,13 @@ module _ (n E : ℕ) (t : List ℕ) (H : Holds n E t) where
   at_failure : (mask : ℕ) (a : List ℕ) → mask < 2 ^ n → length a ≡ 4 * n + 8 → BilledAt t (take (4 * n) (failed_on t a mask).area)
   at_failure mask a lt len = at_answered mask a (latest t a mask laid (rw processes len) (rw processes lt))
 
-  at_numbered : (N : ℕ) (a : List ℕ) → length a ≡ 4 * n → BilledAt t (line_on t a N).area
-  at_numbered N a len =
-      let is : (line_on t a N).area ≡ bytes (numbered_line N s) =
-      ap (λ (x : List ℕ). (line_on x a N).area) H.is ∙ ap (λ (o : Outcome). o.area) (line_said n E H.range s M N a len)
-      in
-      rw is (at_line (numbered_line N s) (length-map s (numbered N) ∙ M.size) (λ p lp. rw (position N s p) (numbered_le N (history s p)))
-      (line_clean n E s M N))
+  at_numbered : (N : ℕ) (a : List ℕ) → length a ≡ 4 * n → (line_on t a N).returned ≡ 0 → BilledAt t (line_on t a N).area
+  at_numbered N a len z =
+      let A = line_answered n E H.range s M N a len (subst (λ (x : List ℕ). (line_on x a N).returned ≡ 0) H.is z) in
+      let is : (line_on t a N).area ≡ bytes (numbered_line N s) = ap (λ (x : List ℕ). (line_on x a N).area) H.is ∙ ap (λ (o : Outcome). o.area) A.left in
+      let many = M.size in
+      rw is (at_line (numbered_line N s) (length-map s _ ∙ M.size) (λ p lp. line_within N s A.passed p (omega arith))
+      (line_clean n E s M N A.passed))
 
 pub billed_once : BilledOnce
 billed_once n E t M =

@@ -2,26 +2,28 @@
 use mathlib.Core.Path.{◌≡◌, refl, sym, ap, ap₂, ◌∙◌}
 use mathlib.Core.Bool.{Bool, true, false, not, cond}
 use mathlib.Core.List.{List, [], ◌∷◌}
-use Prim.Native.Nat.{ℕ, ◌*◌, ◌≤◌}
+use Prim.Native.Nat.{ℕ, ◌*◌, ◌≤◌, ◌<◌}
 use native.Mathlib.Omega.{arith}
 use lib.Dec.{eqb}
-use lib.ListN.{length, length-map}
+use lib.ListN.{length, length-map, get_or}
 use borrow.Author.Tests.{le-leb, le-ltb, eq-eqb, not-false}
-use Rattle.xdr.specs.Words.{word, bytes, put_words}
+use Rattle.xdr.specs.Words.{word, words, bytes, put_words}
 use Rattle.xdr.proofs.Puts.{whole_put}
-use Rattle.xdr.proofs.Words.{Small, all_small, words_bytes}
+use Rattle.xdr.proofs.Words.{all_small, words_bytes}
 use Rattle.rules.specs.Records.{State, history}
 use Rattle.rules.specs.Table.{in_range, size, layout, fresh, decoded, well_laid}
 use Rattle.rules.specs.Steps.{stepped}
-use Rattle.rules.specs.Lines.{numbered, numbered_line}
+use Rattle.rules.specs.Lines.{numbered, lacking, position_or, numbered_line}
 use Rattle.rules.specs.Calls.{Outcome, outcome, row, first, table_rows, line_rows, step_rows, answer, judged, fresh_on, step_on, line_on}
 use Rattle.rules.specs.Lists.{Entry, entry, entry_on, outcomes_on, table_after, MadeByCalls, check, accepts, after, run, said, said_all}
-use Rattle.theorems.specs.TwoLists.{AfterList, Both, TwoLists}
+use Rattle.theorems.specs.TwoLists.{Lined, AfterList, Both, TwoLists}
 use Rattle.records.proofs.Rows.{NoneMet, none_met, first_append, first_none, judged_returned}
 use Rattle.records.proofs.Made.{Sound, made, made_after, made_fresh, never_ten}
-use Rattle.records.proofs.NumberedLines.{position, numbered_le, line_clean}
+use Rattle.records.proofs.Cuts.{saved_le}
+use Rattle.records.proofs.NumberedLines.{first_saved, line_first, line_clean}
 use Rattle.tables.proofs.Laid.{layout_n, layout_e, layout_length, layout_ok, layout_decoded}
 use Rattle.tables.proofs.Ranges.{InRange, in_range_lem}
+use Rattle.basics.proofs.Booleans.{Test, passes, fails, test}
 use Rattle.runs.proofs.Ways.{MadeState}
 use Rattle.theorems.proofs.SameCalls.{same_state}
 
@@ -69,16 +71,6 @@ module _ (n E : ℕ) (d : InRange n E) where
     entry_table : (e : Entry) → (entry_on (layout n E s) e).table ≡ layout n E (after n E s e)
     entry_table e = ap (λ (o : Outcome). o.table) (entry_said e) ∙ said_table e
 
-    pub line_said : (N : ℕ) (area : List ℕ) → length area ≡ 4 * n → line_on (layout n E s) area N ≡ outcome 0 (layout n E s) (bytes (numbered_line N s))
-    unfolding line_on
-    line_said N area l =
-        let t = layout n E s in
-        let many : length (numbered_line N s) ≡ n = length-map s (numbered N) ∙ M.size in
-        ap (λ (r : ℕ). judged r t area t (numbered_line N (decoded t)))
-        (first_append (table_rows t) (line_rows (word t 0) (length area)) unmet_rows)
-        ∙ rw (layout_n n E d s M, layout_decoded n E d s M, eq-eqb (length area) (4 * n) l) (
-        ap (outcome 0 t) (whole_put area (numbered_line N s) (l ∙ ap (λ (k : ℕ). 4 * k) (sym many))))
-
   outcomes_said : (l : List Entry) (s : State) → Sound n E s → outcomes_on (layout n E s) l ≡ said_all n E s l
   outcomes_said [] s M = refl
   outcomes_said (e ∷ l) s M =
@@ -89,10 +81,72 @@ module _ (n E : ℕ) (d : InRange n E) where
   table_run [] s M = refl
   table_run (e ∷ l) s M = ap (λ (t : List ℕ). table_after t l) (entry_table s M e) ∙ table_run l (after n E s e) (made_after n E s e M)
 
-  pub small_line : (N : ℕ) (s : State) → ((p : ℕ) → length (history s p) ≤ E) → Small (numbered_line N s)
-  small_line N s short =
-      let few = d.records in
-      all_small (numbered_line N s) (λ p lt. rw (position N s p) (let a = numbered_le N (history s p) in let b = short p in omega arith))
+-- ---- numbered lines
+
+-- on every well laid table
+pub line_outcome : (t area : List ℕ) (N : ℕ) → NoneMet (table_rows t) → length area ≡ 4 * word t 0 → length (decoded t) ≡ word t 0
+    → line_on t area N ≡ cond (lacking N (decoded t)) (outcome 15 t area) (outcome 0 t (bytes (numbered_line N (decoded t))))
+unfolding line_on
+line_outcome t area N unmet l many =
+    ap (λ (r : ℕ). judged r t area t ws) (first_append (table_rows t) (line_rows (word t 0) N s (length area)) unmet)
+    ∙ rw (eq-eqb (length area) (4 * word t 0) l) (go (lacking N s))
+  where
+    s : State
+    s = decoded t
+
+    ws : List ℕ
+    ws = numbered_line N s
+
+    go : (b : Bool) → judged (first (row 15 b ∷ [])) t area t ws ≡ cond b (outcome 15 t area) (outcome 0 t (bytes ws))
+    go true = refl
+    go false = ap (outcome 0 t) (whole_put area ws (l ∙ ap (λ (k : ℕ). 4 * k) (sym many ∙ sym (length-map s _))))
+
+-- no position is above its process's count
+pub line_within : (N : ℕ) (s : State) → lacking N s ≡ false → (p : ℕ) → p < length s → get_or (numbered_line N s) p 0 ≤ length (history s p)
+line_within N s x p lt = saved_le (history s p) (get_or (numbered_line N s) p 0) (first_saved (line_first N s x p lt))
+
+module _ (n E : ℕ) (d : InRange n E) (s : State) (M : Sound n E s) where
+  abbrev t : List ℕ
+  t = layout n E s
+
+  line_said : (N : ℕ) (area : List ℕ) → length area ≡ 4 * n → line_on t area N ≡ cond (lacking N s) (outcome 15 t area) (outcome 0 t (bytes (numbered_line N s)))
+  line_said N area l =
+      let is = layout_decoded n E d s M in
+      let first_is = layout_n n E d s M in
+      let x = line_outcome t area N (unmet_rows n E d s M) (rw first_is l) (rw (is, first_is) M.size) in
+      rw is at x
+
+  -- what an answered line leaves
+  pub record LineAnswered (N : ℕ) (area : List ℕ) : Type 0 where
+    pub passed : lacking N s ≡ false
+    pub left : line_on t area N ≡ outcome 0 t (bytes (numbered_line N s))
+    pub positions : words (line_on t area N).area ≡ numbered_line N s
+
+  pub line_answered : (N : ℕ) (area : List ℕ) → length area ≡ 4 * n → (line_on t area N).returned ≡ 0 → LineAnswered N area
+  line_answered N area l z = go (test (lacking N s))
+    where
+      go : Test (lacking N s) → LineAnswered N area
+      go (passes x) = let e = ap (λ (o : Outcome). o.returned) (line_said N area l) in absurd (let y : ◌≡◌ {A = ℕ} 0 15 = (sym z ∙ rw x at e) in omega arith)
+      go (fails x) =
+          let few = d.records in
+          let left : line_on t area N ≡ outcome 0 t (bytes (numbered_line N s)) = (line_said N area l ∙ rw x) in
+          record {
+            passed = x;
+            left = left;
+            positions =
+                rw left (words_bytes (numbered_line N s) (all_small (numbered_line N s) (λ p lt.
+                let a = line_within N s x p (let m = length-map s (λ h. position_or 0 (numbered N h)) in omega arith) in
+                let b = M.short p in omega arith)));
+          }
+
+  pub lined : Lined n t s
+  lined = record {
+    answered = line_said;
+    clean = λ N area l z. let A = line_answered N area l z in rw A.positions (line_clean n E s M N A.passed);
+    all_saved = λ N area l z p lt.
+        let A = line_answered N area l z in
+        rw A.positions (first_saved (line_first N s A.passed p (let m = M.size in omega arith)));
+  }
 
 -- ---- one list, and two
 
@@ -104,8 +158,7 @@ after_list n E d l =
     record {
       answered = outcomes_said n E d l (fresh n) (made_fresh n E);
       left = left;
-      lined = λ N area e. rw left (line_said n E d s M N area e);
-      clean = λ N area e. rw (left, line_said n E d s M N area e, words_bytes (numbered_line N s) (small_line n E d N s M.short)) (line_clean n E s M N);
+      lined = rw left (lined n E d s M);
       laid = rw left (first_none (table_rows (layout n E s)) (unmet_rows n E d s M));
       unmet = λ e. never_ten n E s e M;
     }

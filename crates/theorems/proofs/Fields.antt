@@ -67,7 +67,7 @@ module _ (n : ℕ) (t : List ℕ) (w : word t 0 ≡ n) where
   fields (call (step p (receipt q k))) = step_words p (receipt q k) 4 refl
   fields (call (line N)) =
       let a = replicate {A = ℕ} (4 * n) 0 in
-      judged_words (first (table_rows t ++ line_rows (word t 0) (length a))) t a t (numbered_line N (decoded t)) n (n + 2)
+      judged_words (first (table_rows t ++ line_rows (word t 0) N (decoded t) (length a))) t a t (numbered_line N (decoded t)) n (n + 2)
       (length-replicate {A = ℕ} (4 * n) 0) (λ z. omega arith)
   fields (call (failed mask)) =
       let a = replicate {A = ℕ} (4 * n + 8) 0 in
@@ -100,7 +100,7 @@ ran_first n t (call (step p c)) w =
     (λ z. layout_first (word t 0) (word t 1) s (sixteen t refl (first_none (table_rows t) (split_zero (table_rows t) rows tt z).0)) ∙ w)
 ran_first n t (call (line N)) w =
     let a = replicate {A = ℕ} (4 * n) 0 in
-    judged_table (λ (x : List ℕ). word x 0 ≡ n) (first (table_rows t ++ line_rows (word t 0) (length a))) t a t (numbered_line N (decoded t)) w (λ z. w)
+    judged_table (λ (x : List ℕ). word x 0 ≡ n) (first (table_rows t ++ line_rows (word t 0) N (decoded t) (length a))) t a t (numbered_line N (decoded t)) w (λ z. w)
 ran_first n t (call (failed mask)) w =
     let a = replicate {A = ℕ} (4 * n + 8) 0 in
     judged_table (λ (x : List ℕ). word x 0 ≡ n) (first (table_rows t ++ failure_rows (word t 0) mask (length a))) t a t (failure_answer mask (decoded t)) w (λ z. w)

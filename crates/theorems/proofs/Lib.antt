@@ -7,3 +7,4 @@ pub mod Places
 pub mod Fields
 pub mod Audited
 pub mod Grounds
+pub mod Lines

@@ -17,7 +17,7 @@ use Rattle.rules.specs.Calls.{first, table_rows, step_rows, answer, step_on}
 use Rattle.theorems.specs.Places.{SendAt, Places, OneAnswer}
 use Rattle.basics.proofs.Older.{same}
 use Rattle.records.proofs.Histories.{at_older, found, of_send_at, carried_at, Held, holds_held, send_of}
-use Rattle.records.proofs.NumberedLines.{upto_older}
+use Rattle.records.proofs.Cuts.{upto_older}
 use Rattle.records.proofs.Rows.{split_zero, judged_returned, judged_done}
 use Rattle.records.proofs.Steps.{accepted_met, area_met, history_same, history_other, receipt_place}
 use Rattle.tables.proofs.WellLaid.{decoded_count}

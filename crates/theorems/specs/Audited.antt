@@ -6,14 +6,14 @@
 -- "A refused call leaves" the scratch "untouched", and the table and the answer area too, with the row's number (Audits).
 -- "What the scratch holds after an accepted call may vary": `left` is whatever it holds then.
 -- "A table that gets 1 has everything that was shown for made tables": Has.
-use Rattle.std.specs.Prelude.{◌≡◌, ◌≢◌, ◌↔◌, List, [], ◌∷◌, ℕ, ◌*◌, length}
-use Rattle.xdr.specs.Words.{word, words, bytes}
+use Rattle.std.specs.Prelude.{◌≡◌, ◌≢◌, ◌↔◌, List, [], ◌∷◌, ℕ, length}
+use Rattle.xdr.specs.Words.{word, bytes}
 use Rattle.rules.specs.Table.{decoded}
 use Rattle.rules.specs.Steps.{Call}
-use Rattle.rules.specs.Lines.{NoOrphan, numbered_line}
-use Rattle.rules.specs.Calls.{Outcome, outcome, outcome_with, first, table_rows, fresh_on, step_on, line_on}
+use Rattle.rules.specs.Calls.{Outcome, outcome_with, first, table_rows, fresh_on, step_on}
 use Rattle.rules.specs.Lists.{Entry, outcomes_on, table_after, MadeByCalls}
 use Rattle.rules.specs.Audit.{audit_on}
+use Rattle.theorems.specs.TwoLists.{Lined}
 use Rattle.theorems.specs.BilledOnce.{Restarts}
 
 -- ---- 1 or 0
@@ -60,9 +60,8 @@ AuditExact = (t a scratch left : List ℕ) → Audits t a scratch left
 pub record Has (t : List ℕ) : Type 0 where
   -- it is made by accepted calls, of the dimensions that it begins with, so that whatever is shown of all such tables holds of it
   pub made : MadeByCalls (word t 0) (word t 1) t
-  -- every numbered line is answered as document 01 says, with an area of the exact length, and is without orphans
-  pub lined : (N : ℕ) (area : List ℕ) → length area ≡ 4 * word t 0 → line_on t area N ≡ outcome 0 t (bytes (numbered_line N (decoded t)))
-  pub clean : (N : ℕ) (area : List ℕ) → length area ≡ 4 * word t 0 → NoOrphan (decoded t) (words (line_on t area N).area)
+  -- every numbered line is answered or refused as the documents say, and an answered one is without orphans
+  pub lined : Lined (word t 0) t (decoded t)
   -- no step on it meets row 10
   pub unmet : (area : List ℕ) (p : ℕ) (call : Call) → (step_on t area p call).returned ≢ 10
   -- after a restart each pulse is billed once

@@ -1,7 +1,8 @@
 -- Slip 1, the promise for one restart, stated. Proved as `billed_once` in proofs/BilledOnce.antt.
 --
 -- After one restart each pulse is billed once, on every table made by accepted calls:
--- All processes go on from one cut without orphans (`anywhere`), as every failure line and every numbered line is (`failure`, `numbered`).
+-- All processes go on from one cut without orphans (`anywhere`), as every failure line is and every numbered line that is answered
+-- (`failure`, `numbered`).
 -- What was sent inside the cut stays sent: the sender's saved state has reported these pulses and won't report them again (`all_sent`).
 -- What was received inside it stays received: these pulses are in the receiver's saved state, where they are billed (`all_received`).
 -- The host sends the listed messages again, and nothing else (`all_listed`, of the list that the exported call leaves).
@@ -67,8 +68,8 @@ pub record Restarts (n : ℕ) (t : List ℕ) : Type 0 where
   pub anywhere : (positions : List ℕ) → IsCut t positions → NoOrphan (decoded t) (words positions) → BilledAt t positions
   -- at every failure line, as the call answers it
   pub failure : (mask : ℕ) (a : List ℕ) → mask < 2 ^ n → length a ≡ 4 * n + 8 → BilledAt t (take (4 * n) (failed_on t a mask).area)
-  -- at every numbered line, as the call answers it
-  pub numbered : (N : ℕ) (a : List ℕ) → length a ≡ 4 * n → BilledAt t (line_on t a N).area
+  -- at every numbered line that is answered, as the call answers it
+  pub numbered : (N : ℕ) (a : List ℕ) → length a ≡ 4 * n → (line_on t a N).returned ≡ 0 → BilledAt t (line_on t a N).area
 
 abbrev pub BilledOnce : Type 0
 BilledOnce = (n E : ℕ) (t : List ℕ) → MadeByCalls n E t → Restarts n t

@@ -6,3 +6,4 @@ pub mod Places
 pub mod Fields
 pub mod Audited
 pub mod Grounds
+pub mod Lines

@@ -8,13 +8,27 @@
 -- "Every call gets the table as the one before left it", and "a refused call stays in its list": outcomes_on and table_after, by the
 -- outcome to which each exported call is held.
 -- "What this document says for a list comes from the entries alone": said_all and run, which begin with no records.
-use Rattle.std.specs.Prelude.{◌≡◌, ◌↔◌, ◌≢◌, List, ℕ, ◌*◌, ◌<◌, length}
+-- Document 02, slip 8: a numbered line is answered or refused, and "demand 3 owes freedom from orphans for each line that is answered".
+use Rattle.std.specs.Prelude.{◌≡◌, ◌↔◌, ◌≢◌, true, cond, List, ℕ, ◌*◌, ◌<◌, length, get_or}
 use Rattle.xdr.specs.Words.{bytes, words}
-use Rattle.rules.specs.Records.{State}
+use Rattle.rules.specs.Records.{State, history}
 use Rattle.rules.specs.Table.{layout, fresh}
-use Rattle.rules.specs.Lines.{NoOrphan, numbered_line}
+use Rattle.rules.specs.Lines.{NoOrphan, saved, lacking, numbered_line}
 use Rattle.rules.specs.Calls.{outcome, fresh_on, line_on, first, table_rows}
 use Rattle.rules.specs.Lists.{Entry, outcomes_on, table_after, accepted_calls, check, run, said_all}
+
+-- What holds of every numbered line N, "for every 32-bit N", that is asked for on a table t of n processes, whose records are s, "with an
+-- area of the exact length".
+pub record Lined (n : ℕ) (t : List ℕ) (s : State) : Type 0 where
+  -- it is "refused if some process has no saved checkpoint of that number or more", with 15 and the area as it was, else answered with its
+  -- positions; the table stays as it was
+  pub answered : (N : ℕ) (area : List ℕ) → length area ≡ 4 * n
+      → line_on t area N ≡ cond (lacking N s) (outcome 15 t area) (outcome 0 t (bytes (numbered_line N s)))
+  -- an answered one "holds no receipt without its send": "when the positions answered have an orphan", which none has
+  pub clean : (N : ℕ) (area : List ℕ) → length area ≡ 4 * n → (line_on t area N).returned ≡ 0 → NoOrphan s (words (line_on t area N).area)
+  -- and each of its positions is 0 or a checkpoint's
+  pub all_saved : (N : ℕ) (area : List ℕ) → length area ≡ 4 * n → (line_on t area N).returned ≡ 0 → (p : ℕ) → p < n
+      → saved (history s p) (get_or (words (line_on t area N).area) p 0) ≡ true
 
 -- What holds of one list l that begins on the table t; s are the records that its entries give.
 pub record AfterList (n E : ℕ) (t : List ℕ) (l : List Entry) (s : State) : Type 0 where
@@ -22,11 +36,9 @@ pub record AfterList (n E : ℕ) (t : List ℕ) (l : List Entry) (s : State) : T
   pub answered : outcomes_on t l ≡ said_all n E (fresh n) l
   -- the table after the list holds the records s
   pub left : table_after t l ≡ layout n E s
-  -- "after each list every numbered line is answered as document 01 says": "for every 32-bit N", "asked for on the table after the
-  -- list, with an area of the exact length"
-  pub lined : (N : ℕ) (area : List ℕ) → length area ≡ 4 * n → line_on (table_after t l) area N ≡ outcome 0 (table_after t l) (bytes (numbered_line N s))
-  -- "and holds no receipt without its send": "when the positions answered have an orphan", which none has
-  pub clean : (N : ℕ) (area : List ℕ) → length area ≡ 4 * n → NoOrphan s (words (line_on (table_after t l) area N).area)
+  -- "after each list every numbered line is answered as document 01 says", "asked for on the table after the list", "and holds no receipt
+  -- without its send"
+  pub lined : Lined n (table_after t l) s
   -- beyond the demand: the table meets none of its own rows, and no entry after the list meets row 10
   pub laid : first (table_rows (table_after t l)) ≡ 0
   pub unmet : (e : Entry) → check n E s e ≢ 10
