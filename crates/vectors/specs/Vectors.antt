@@ -60,7 +60,7 @@ worked = script (lent 332) (accepted (fresh 3 6) 0 [] table0 ∷ accepted (step 
     ∷ accepted (step 0 (send 1)) 8 (1 ∷ 1 ∷ []) table2 ∷ accepted (step 1 (send 2)) 8 (1 ∷ 0 ∷ []) table3
     ∷ accepted (step 1 (receipt 0 1)) 16 (1 ∷ 1 ∷ 2 ∷ 3 ∷ []) table4 ∷ accepted (step 1 (send 2)) 8 (2 ∷ 1 ∷ []) table5
     ∷ accepted (step 2 (receipt 1 2)) 16 (1 ∷ 1 ∷ 4 ∷ 2 ∷ []) table6 ∷ accepted (step 2 (receipt 1 1)) 16 (0 ∷ 0 ∷ 1 ∷ 3 ∷ []) table7
-    ∷ accepted (line 0) 12 (0 ∷ 0 ∷ 0 ∷ []) table7 ∷ accepted (line 1) 12 (1 ∷ 2 ∷ 1 ∷ []) table7 ∷ accepted (line 2) 12 (2 ∷ 4 ∷ 3 ∷ []) table7
+    ∷ accepted (line 0) 12 (0 ∷ 0 ∷ 0 ∷ []) table7 ∷ accepted (line 1) 12 (1 ∷ 2 ∷ 1 ∷ []) table7 ∷ refused (line 2) 12 15
     ∷ accepted (failed 0) 20 (2 ∷ 4 ∷ 3 ∷ 0 ∷ 0 ∷ []) table7 ∷ accepted (failed 1) 20 (1 ∷ 2 ∷ 1 ∷ 7 ∷ 3 ∷ []) table7
     ∷ accepted (failed 2) 20 (2 ∷ 2 ∷ 1 ∷ 6 ∷ 2 ∷ []) table7 ∷ accepted (failed 4) 20 (2 ∷ 4 ∷ 1 ∷ 4 ∷ 1 ∷ []) table7 ∷ refused (failed 8) 20 11
     ∷ refused (step 2 (receipt 1 1)) 16 8 ∷ refused (step 1 (receipt 0 2)) 16 7 ∷ []) ∷ []
@@ -369,14 +369,14 @@ table71 = bytes (2 ∷ 4 ∷ 4 ∷ 3 ∷ 1 ∷ 2 ∷ 2 ∷ 0 ∷ 0 ∷ 3 ∷ 1 �
 -- Fourth words of records: a receipt's that are well laid, then others of every kind.
 abbrev carried : List Script
 carried = script table57 (refused (step 0 (receipt 1 1)) 16 8 ∷ accepted (step 1 (receipt 0 1)) 16 (2 ∷ 1 ∷ 2 ∷ 3 ∷ []) table58
-    ∷ accepted (line 3) 8 (4 ∷ 3 ∷ []) table58 ∷ accepted (failed 2) 16 (4 ∷ 2 ∷ 2 ∷ 1 ∷ []) table58 ∷ [])
+    ∷ accepted (line 2) 8 (1 ∷ 2 ∷ []) table58 ∷ accepted (failed 2) 16 (4 ∷ 2 ∷ 2 ∷ 1 ∷ []) table58 ∷ [])
     ∷ script table59 (refused (step 0 (receipt 1 1)) 16 8 ∷ accepted (step 1 (receipt 0 1)) 16 (2 ∷ 1 ∷ 2 ∷ 3 ∷ []) table60
-    ∷ accepted (line 3) 8 (4 ∷ 3 ∷ []) table60 ∷ accepted (failed 2) 16 (4 ∷ 2 ∷ 2 ∷ 1 ∷ []) table60 ∷ [])
+    ∷ accepted (line 2) 8 (1 ∷ 2 ∷ []) table60 ∷ accepted (failed 2) 16 (4 ∷ 2 ∷ 2 ∷ 1 ∷ []) table60 ∷ [])
     ∷ script table61 (refused (step 0 (receipt 1 1)) 16 8 ∷ accepted (step 1 (receipt 0 1)) 16 (2 ∷ 1 ∷ 2 ∷ 3 ∷ []) table62
-    ∷ accepted (line 3) 8 (4 ∷ 3 ∷ []) table62 ∷ accepted (failed 2) 16 (4 ∷ 2 ∷ 2 ∷ 1 ∷ []) table62 ∷ [])
+    ∷ accepted (line 2) 8 (1 ∷ 2 ∷ []) table62 ∷ accepted (failed 2) 16 (4 ∷ 2 ∷ 2 ∷ 1 ∷ []) table62 ∷ [])
     ∷ script table63 (refused (step 0 (receipt 1 1)) 16 3 ∷ []) ∷ script table64 (refused (step 1 (receipt 0 1)) 16 3 ∷ [])
-    ∷ script table65 (refused (line 3) 8 3 ∷ []) ∷ script table66 (refused (failed 2) 16 3 ∷ []) ∷ script table67 (refused (step 0 (receipt 1 1)) 16 3 ∷ [])
-    ∷ script table68 (refused (step 1 (receipt 0 1)) 16 3 ∷ []) ∷ script table69 (refused (line 3) 8 3 ∷ []) ∷ script table70 (refused (failed 2) 16 3 ∷ [])
+    ∷ script table65 (refused (line 2) 8 3 ∷ []) ∷ script table66 (refused (failed 2) 16 3 ∷ []) ∷ script table67 (refused (step 0 (receipt 1 1)) 16 3 ∷ [])
+    ∷ script table68 (refused (step 1 (receipt 0 1)) 16 3 ∷ []) ∷ script table69 (refused (line 2) 8 3 ∷ []) ∷ script table70 (refused (failed 2) 16 3 ∷ [])
     ∷ script table71 (refused (step 0 (receipt 1 1)) 16 3 ∷ []) ∷ []
 
 pub carried_agree : Agree carried
@@ -420,7 +420,7 @@ rows = script table72 (refused (step 4294967295 checkpoint) 0 4 ∷ refused (ste
     ∷ refused (step 2 (send 2)) 5 4 ∷ refused (step 2 (receipt 2 0)) 5 4 ∷ refused (line 4294967295) 5 4 ∷ refused (failed 4294967295) 5 4
     ∷ resend (0 ∷ 4294967295 ∷ []) [] 5 12 [] ∷ refused (step 4294967295 checkpoint) 7 4 ∷ refused (step 2 (send 2)) 7 4 ∷ refused (step 2 (receipt 2 0)) 7 4
     ∷ refused (line 4294967295) 7 4 ∷ refused (failed 4294967295) 7 4 ∷ resend (0 ∷ 4294967295 ∷ []) [] 7 12 [] ∷ refused (step 4294967295 checkpoint) 8 4
-    ∷ refused (step 2 (send 2)) 8 5 ∷ refused (step 2 (receipt 2 0)) 8 4 ∷ accepted (line 4294967295) 8 (2 ∷ 1 ∷ []) table72 ∷ refused (failed 4294967295) 8 4
+    ∷ refused (step 2 (send 2)) 8 5 ∷ refused (step 2 (receipt 2 0)) 8 4 ∷ refused (line 4294967295) 8 15 ∷ refused (failed 4294967295) 8 4
     ∷ resend (0 ∷ 4294967295 ∷ []) [] 8 12 [] ∷ refused (step 4294967295 checkpoint) 9 4 ∷ refused (step 2 (send 2)) 9 4 ∷ refused (step 2 (receipt 2 0)) 9 4
     ∷ refused (line 4294967295) 9 4 ∷ refused (failed 4294967295) 9 4 ∷ resend (0 ∷ 4294967295 ∷ []) [] 9 12 [] ∷ refused (step 4294967295 checkpoint) 12 4
     ∷ refused (step 2 (send 2)) 12 4 ∷ refused (step 2 (receipt 2 0)) 12 4 ∷ refused (line 4294967295) 12 4 ∷ refused (failed 4294967295) 12 4
@@ -596,10 +596,9 @@ table105 = bytes (2 ∷ 7 ∷ 7 ∷ 0 ∷ 3 ∷ 3 ∷ 1 ∷ 1 ∷ 0 ∷ 4 ∷ 1 
 
 -- A failure line that falls to the start, a checkpoint a round.
 abbrev fall : List Script
-fall = script table105 (accepted (line 0) 8 (0 ∷ 0 ∷ []) table105 ∷ accepted (line 1) 8 (7 ∷ 7 ∷ []) table105
-    ∷ accepted (failed 0) 16 (7 ∷ 7 ∷ 0 ∷ 0 ∷ []) table105 ∷ accepted (failed 1) 16 (0 ∷ 0 ∷ 3 ∷ 2 ∷ []) table105
-    ∷ accepted (failed 2) 16 (0 ∷ 0 ∷ 3 ∷ 2 ∷ []) table105 ∷ accepted (failed 3) 16 (0 ∷ 0 ∷ 3 ∷ 2 ∷ []) table105 ∷ refused (failed 4) 16 11
-    ∷ refused (failed 4294967295) 16 11 ∷ []) ∷ []
+fall = script table105 (accepted (line 0) 8 (0 ∷ 0 ∷ []) table105 ∷ refused (line 1) 8 15 ∷ accepted (failed 0) 16 (7 ∷ 7 ∷ 0 ∷ 0 ∷ []) table105
+    ∷ accepted (failed 1) 16 (0 ∷ 0 ∷ 3 ∷ 2 ∷ []) table105 ∷ accepted (failed 2) 16 (0 ∷ 0 ∷ 3 ∷ 2 ∷ []) table105
+    ∷ accepted (failed 3) 16 (0 ∷ 0 ∷ 3 ∷ 2 ∷ []) table105 ∷ refused (failed 4) 16 11 ∷ refused (failed 4294967295) 16 11 ∷ []) ∷ []
 
 pub fall_agree : Agree fall
 unfolding fresh_on step_on line_on failed_on resend_on layout decoded well_laid word put_word put_words failure_answer failure_line rounds round ones ones_in in_transit
@@ -615,10 +614,9 @@ table107 = bytes (1 ∷ 1 ∷ 1 ∷ 1 ∷ 0 ∷ 1 ∷ 1 ∷ 0 ∷ 0 ∷ [])
 abbrev run0 : List Script
 run0 = script (lent 36) (accepted (fresh 1 1) 0 [] table106 ∷ accepted (step 0 checkpoint) 4 (1 ∷ []) table107 ∷ refused (step 0 (send 0)) 8 6
     ∷ refused (step 0 (send 0)) 8 6 ∷ refused (step 0 (send 0)) 8 6 ∷ refused (step 0 (send 0)) 8 6 ∷ refused (step 0 (send 257)) 8 6
-    ∷ accepted (line 0) 4 (0 ∷ []) table107 ∷ accepted (line 1) 4 (1 ∷ []) table107 ∷ accepted (line 2) 4 (1 ∷ []) table107
-    ∷ accepted (line 3) 4 (1 ∷ []) table107 ∷ accepted (line 1) 4 (1 ∷ []) table107 ∷ accepted (line 4294967295) 4 (1 ∷ []) table107
-    ∷ accepted (failed 0) 12 (1 ∷ 0 ∷ 0 ∷ []) table107 ∷ accepted (failed 1) 12 (1 ∷ 1 ∷ 1 ∷ []) table107 ∷ refused (failed 2) 12 11
-    ∷ refused (failed 4294967295) 12 11 ∷ []) ∷ []
+    ∷ accepted (line 0) 4 (0 ∷ []) table107 ∷ accepted (line 1) 4 (1 ∷ []) table107 ∷ refused (line 2) 4 15 ∷ refused (line 3) 4 15
+    ∷ accepted (line 1) 4 (1 ∷ []) table107 ∷ refused (line 4294967295) 4 15 ∷ accepted (failed 0) 12 (1 ∷ 0 ∷ 0 ∷ []) table107
+    ∷ accepted (failed 1) 12 (1 ∷ 1 ∷ 1 ∷ []) table107 ∷ refused (failed 2) 12 11 ∷ refused (failed 4294967295) 12 11 ∷ []) ∷ []
 
 pub run0_agree : Agree run0
 unfolding fresh_on step_on line_on failed_on resend_on layout decoded well_laid word put_word put_words failure_answer failure_line rounds round ones ones_in in_transit
@@ -636,9 +634,9 @@ run1 = script (lent 84) (accepted (fresh 1 4) 0 [] table108 ∷ accepted (step 0
     ∷ refused (step 0 (send 0)) 8 6 ∷ refused (step 0 (send 0)) 16 4 ∷ refused (step 0 (send 0)) 8 6 ∷ refused (step 0 (send 0)) 8 6
     ∷ refused (step 255 checkpoint) 4 5 ∷ refused (step 0 (send 0)) 8 6 ∷ refused (step 0 (send 0)) 8 6 ∷ refused (step 0 (send 0)) 8 6
     ∷ refused (step 0 (send 0)) 8 6 ∷ refused (step 0 (send 0)) 8 6 ∷ accepted (line 0) 4 (0 ∷ []) table109 ∷ accepted (line 1) 4 (1 ∷ []) table109
-    ∷ accepted (line 2) 4 (1 ∷ []) table109 ∷ accepted (line 3) 4 (1 ∷ []) table109 ∷ accepted (line 4) 4 (1 ∷ []) table109
-    ∷ accepted (line 4294967295) 4 (1 ∷ []) table109 ∷ accepted (failed 0) 12 (1 ∷ 0 ∷ 0 ∷ []) table109 ∷ accepted (failed 1) 12 (1 ∷ 1 ∷ 1 ∷ []) table109
-    ∷ refused (failed 2) 12 11 ∷ refused (failed 4294967295) 12 11 ∷ []) ∷ []
+    ∷ refused (line 2) 4 15 ∷ refused (line 3) 4 15 ∷ refused (line 4) 4 15 ∷ refused (line 4294967295) 4 15
+    ∷ accepted (failed 0) 12 (1 ∷ 0 ∷ 0 ∷ []) table109 ∷ accepted (failed 1) 12 (1 ∷ 1 ∷ 1 ∷ []) table109 ∷ refused (failed 2) 12 11
+    ∷ refused (failed 4294967295) 12 11 ∷ []) ∷ []
 
 pub run1_agree : Agree run1
 unfolding fresh_on step_on line_on failed_on resend_on layout decoded well_laid word put_word put_words failure_answer failure_line rounds round ones ones_in in_transit
@@ -658,11 +656,11 @@ abbrev run2 : List Script
 run2 = script (lent 64) (accepted (fresh 2 1) 0 [] table110 ∷ accepted (step 0 (send 1)) 8 (1 ∷ 0 ∷ []) table111
     ∷ accepted (step 1 (receipt 0 1)) 16 (0 ∷ 0 ∷ 1 ∷ 1 ∷ []) table112 ∷ refused (step 1 (send 0)) 8 9 ∷ refused (step 2147483648 (send 1)) 9 4
     ∷ refused (step 0 (send 1)) 8 9 ∷ refused (step 0 (receipt 1 1)) 16 7 ∷ refused (step 1 (send 0)) 8 9 ∷ refused (step 1 (send 0)) 8 9
-    ∷ refused (step 1 (send 0)) 8 9 ∷ refused (step 1 checkpoint) 4 9 ∷ accepted (line 0) 8 (0 ∷ 0 ∷ []) table112 ∷ accepted (line 1) 8 (1 ∷ 1 ∷ []) table112
-    ∷ accepted (line 2) 8 (1 ∷ 1 ∷ []) table112 ∷ accepted (line 3) 8 (1 ∷ 1 ∷ []) table112 ∷ accepted (line 2) 8 (1 ∷ 1 ∷ []) table112
-    ∷ accepted (line 4294967295) 8 (1 ∷ 1 ∷ []) table112 ∷ accepted (failed 0) 16 (1 ∷ 1 ∷ 0 ∷ 0 ∷ []) table112
-    ∷ accepted (failed 1) 16 (0 ∷ 0 ∷ 3 ∷ 2 ∷ []) table112 ∷ accepted (failed 2) 16 (1 ∷ 0 ∷ 2 ∷ 1 ∷ []) table112
-    ∷ accepted (failed 3) 16 (0 ∷ 0 ∷ 3 ∷ 2 ∷ []) table112 ∷ refused (failed 4) 16 11 ∷ refused (failed 4294967295) 16 11 ∷ []) ∷ []
+    ∷ refused (step 1 (send 0)) 8 9 ∷ refused (step 1 checkpoint) 4 9 ∷ accepted (line 0) 8 (0 ∷ 0 ∷ []) table112 ∷ refused (line 1) 8 15
+    ∷ refused (line 2) 8 15 ∷ refused (line 3) 8 15 ∷ refused (line 2) 8 15 ∷ refused (line 4294967295) 8 15
+    ∷ accepted (failed 0) 16 (1 ∷ 1 ∷ 0 ∷ 0 ∷ []) table112 ∷ accepted (failed 1) 16 (0 ∷ 0 ∷ 3 ∷ 2 ∷ []) table112
+    ∷ accepted (failed 2) 16 (1 ∷ 0 ∷ 2 ∷ 1 ∷ []) table112 ∷ accepted (failed 3) 16 (0 ∷ 0 ∷ 3 ∷ 2 ∷ []) table112 ∷ refused (failed 4) 16 11
+    ∷ refused (failed 4294967295) 16 11 ∷ []) ∷ []
 
 pub run2_agree : Agree run2
 unfolding fresh_on step_on line_on failed_on resend_on layout decoded well_laid word put_word put_words failure_answer failure_line rounds round ones ones_in in_transit
@@ -696,9 +694,8 @@ run3 = script (lent 128) (accepted (fresh 2 3) 0 [] table113 ∷ refused (step 2
     ∷ accepted (step 1 (receipt 0 2)) 16 (0 ∷ 0 ∷ 2 ∷ 2 ∷ []) table117 ∷ refused (step 1 (receipt 0 2)) 16 8
     ∷ accepted (step 1 (send 0)) 8 (1 ∷ 0 ∷ []) table118 ∷ accepted (step 0 (send 1)) 8 (3 ∷ 0 ∷ []) table119 ∷ refused (step 0 (send 1)) 8 9
     ∷ refused (step 0 (send 1)) 8 9 ∷ refused (step 0 (receipt 1 1)) 16 9 ∷ refused (step 1 checkpoint) 4 9 ∷ refused (step 0 (receipt 1 4)) 16 7
-    ∷ refused (step 1 (receipt 0 1)) 16 8 ∷ accepted (line 0) 8 (0 ∷ 0 ∷ []) table119 ∷ accepted (line 1) 8 (3 ∷ 3 ∷ []) table119
-    ∷ accepted (line 2) 8 (3 ∷ 3 ∷ []) table119 ∷ accepted (line 3) 8 (3 ∷ 3 ∷ []) table119 ∷ accepted (line 6) 8 (3 ∷ 3 ∷ []) table119
-    ∷ accepted (line 4294967295) 8 (3 ∷ 3 ∷ []) table119 ∷ accepted (failed 0) 16 (3 ∷ 3 ∷ 0 ∷ 0 ∷ []) table119
+    ∷ refused (step 1 (receipt 0 1)) 16 8 ∷ accepted (line 0) 8 (0 ∷ 0 ∷ []) table119 ∷ refused (line 1) 8 15 ∷ refused (line 2) 8 15 ∷ refused (line 3) 8 15
+    ∷ refused (line 6) 8 15 ∷ refused (line 4294967295) 8 15 ∷ accepted (failed 0) 16 (3 ∷ 3 ∷ 0 ∷ 0 ∷ []) table119
     ∷ accepted (failed 1) 16 (0 ∷ 0 ∷ 3 ∷ 2 ∷ []) table119 ∷ accepted (failed 2) 16 (3 ∷ 0 ∷ 2 ∷ 1 ∷ []) table119
     ∷ accepted (failed 3) 16 (0 ∷ 0 ∷ 3 ∷ 2 ∷ []) table119 ∷ refused (failed 4) 16 11 ∷ refused (failed 4294967295) 16 11 ∷ []) ∷ []
 
@@ -746,9 +743,8 @@ run4 = script (lent 160) (accepted (fresh 2 4) 0 [] table14 ∷ accepted (step 0
     ∷ accepted (step 1 (receipt 0 3)) 16 (0 ∷ 0 ∷ 3 ∷ 2 ∷ []) table124 ∷ accepted (step 0 (send 1)) 8 (4 ∷ 0 ∷ []) table125 ∷ refused (step 0 checkpoint) 4 9
     ∷ accepted (step 1 (receipt 0 2)) 16 (0 ∷ 0 ∷ 2 ∷ 3 ∷ []) table126 ∷ refused (step 0 (send 1)) 8 9
     ∷ accepted (step 1 (receipt 0 4)) 16 (0 ∷ 0 ∷ 4 ∷ 4 ∷ []) table127 ∷ refused (step 0 (receipt 1 0)) 16 7 ∷ refused (step 1 (receipt 0 4)) 16 8
-    ∷ refused (step 1 (send 0)) 8 9 ∷ accepted (line 0) 8 (0 ∷ 0 ∷ []) table127 ∷ accepted (line 1) 8 (4 ∷ 4 ∷ []) table127
-    ∷ accepted (line 2) 8 (4 ∷ 4 ∷ []) table127 ∷ accepted (line 3) 8 (4 ∷ 4 ∷ []) table127 ∷ accepted (line 8) 8 (4 ∷ 4 ∷ []) table127
-    ∷ accepted (line 4294967295) 8 (4 ∷ 4 ∷ []) table127 ∷ accepted (failed 0) 16 (4 ∷ 4 ∷ 0 ∷ 0 ∷ []) table127
+    ∷ refused (step 1 (send 0)) 8 9 ∷ accepted (line 0) 8 (0 ∷ 0 ∷ []) table127 ∷ refused (line 1) 8 15 ∷ refused (line 2) 8 15 ∷ refused (line 3) 8 15
+    ∷ refused (line 8) 8 15 ∷ refused (line 4294967295) 8 15 ∷ accepted (failed 0) 16 (4 ∷ 4 ∷ 0 ∷ 0 ∷ []) table127
     ∷ accepted (failed 1) 16 (0 ∷ 0 ∷ 3 ∷ 2 ∷ []) table127 ∷ accepted (failed 2) 16 (4 ∷ 0 ∷ 2 ∷ 1 ∷ []) table127
     ∷ accepted (failed 3) 16 (0 ∷ 0 ∷ 3 ∷ 2 ∷ []) table127 ∷ refused (failed 4) 16 11 ∷ refused (failed 4294967295) 16 11 ∷ []) ∷ []
 
@@ -819,10 +815,10 @@ run5 = script (lent 224) (accepted (fresh 2 6) 0 [] table128 ∷ accepted (step 
     ∷ accepted (step 1 (receipt 0 3)) 16 (2 ∷ 0 ∷ 5 ∷ 5 ∷ []) table138 ∷ refused (step 1 (receipt 0 3)) 16 8
     ∷ accepted (step 1 (send 0)) 8 (1 ∷ 2 ∷ []) table139 ∷ accepted (step 0 (receipt 1 1)) 16 (2 ∷ 0 ∷ 6 ∷ 6 ∷ []) table140 ∷ refused (step 0 (send 1)) 8 9
     ∷ refused (step 1 (receipt 1 2)) 16 6 ∷ refused (step 1 (send 0)) 1 4 ∷ accepted (line 0) 8 (0 ∷ 0 ∷ []) table140
-    ∷ accepted (line 1) 8 (1 ∷ 1 ∷ []) table140 ∷ accepted (line 2) 8 (4 ∷ 2 ∷ []) table140 ∷ accepted (line 3) 8 (6 ∷ 6 ∷ []) table140
-    ∷ accepted (line 12) 8 (6 ∷ 6 ∷ []) table140 ∷ accepted (line 4294967295) 8 (6 ∷ 6 ∷ []) table140 ∷ accepted (failed 0) 16 (6 ∷ 6 ∷ 0 ∷ 0 ∷ []) table140
-    ∷ accepted (failed 1) 16 (4 ∷ 2 ∷ 3 ∷ 2 ∷ []) table140 ∷ accepted (failed 2) 16 (4 ∷ 2 ∷ 3 ∷ 2 ∷ []) table140
-    ∷ accepted (failed 3) 16 (4 ∷ 2 ∷ 3 ∷ 2 ∷ []) table140 ∷ refused (failed 4) 16 11 ∷ refused (failed 4294967295) 16 11 ∷ []) ∷ []
+    ∷ accepted (line 1) 8 (1 ∷ 1 ∷ []) table140 ∷ accepted (line 2) 8 (4 ∷ 2 ∷ []) table140 ∷ refused (line 3) 8 15 ∷ refused (line 12) 8 15
+    ∷ refused (line 4294967295) 8 15 ∷ accepted (failed 0) 16 (6 ∷ 6 ∷ 0 ∷ 0 ∷ []) table140 ∷ accepted (failed 1) 16 (4 ∷ 2 ∷ 3 ∷ 2 ∷ []) table140
+    ∷ accepted (failed 2) 16 (4 ∷ 2 ∷ 3 ∷ 2 ∷ []) table140 ∷ accepted (failed 3) 16 (4 ∷ 2 ∷ 3 ∷ 2 ∷ []) table140 ∷ refused (failed 4) 16 11
+    ∷ refused (failed 4294967295) 16 11 ∷ []) ∷ []
 
 pub run5_agree : Agree run5
 unfolding fresh_on step_on line_on failed_on resend_on layout decoded well_laid word put_word put_words failure_answer failure_line rounds round ones ones_in in_transit
@@ -863,9 +859,8 @@ run6 = script (lent 140) (accepted (fresh 3 2) 0 [] table141 ∷ refused (step 2
     ∷ accepted (step 2 (send 0)) 8 (1 ∷ 1 ∷ []) table144 ∷ refused (step 2 (receipt 0 1)) 16 9 ∷ refused (step 0 (receipt 2 1)) 16 9
     ∷ accepted (step 1 (send 2)) 8 (1 ∷ 0 ∷ []) table145 ∷ refused (step 2 (receipt 1 1)) 16 9 ∷ refused (step 0 (receipt 2 1)) 16 9
     ∷ accepted (step 0 (send 2)) 8 (2 ∷ 0 ∷ []) table146 ∷ accepted (step 1 (send 0)) 8 (2 ∷ 0 ∷ []) table147 ∷ refused (step 0 (receipt 1 2)) 16 9
-    ∷ refused (step 0 (receipt 1 2)) 16 9 ∷ refused (step 2 (send 0)) 8 9 ∷ accepted (line 0) 12 (0 ∷ 0 ∷ 0 ∷ []) table147
-    ∷ accepted (line 1) 12 (2 ∷ 2 ∷ 1 ∷ []) table147 ∷ accepted (line 2) 12 (2 ∷ 2 ∷ 2 ∷ []) table147 ∷ accepted (line 3) 12 (2 ∷ 2 ∷ 2 ∷ []) table147
-    ∷ accepted (line 6) 12 (2 ∷ 2 ∷ 2 ∷ []) table147 ∷ accepted (line 4294967295) 12 (2 ∷ 2 ∷ 2 ∷ []) table147
+    ∷ refused (step 0 (receipt 1 2)) 16 9 ∷ refused (step 2 (send 0)) 8 9 ∷ accepted (line 0) 12 (0 ∷ 0 ∷ 0 ∷ []) table147 ∷ refused (line 1) 12 15
+    ∷ refused (line 2) 12 15 ∷ refused (line 3) 12 15 ∷ refused (line 6) 12 15 ∷ refused (line 4294967295) 12 15
     ∷ accepted (failed 0) 20 (2 ∷ 2 ∷ 2 ∷ 0 ∷ 0 ∷ []) table147 ∷ accepted (failed 1) 20 (0 ∷ 2 ∷ 2 ∷ 1 ∷ 1 ∷ []) table147
     ∷ accepted (failed 2) 20 (2 ∷ 0 ∷ 2 ∷ 2 ∷ 1 ∷ []) table147 ∷ accepted (failed 3) 20 (0 ∷ 0 ∷ 2 ∷ 3 ∷ 2 ∷ []) table147
     ∷ accepted (failed 4) 20 (2 ∷ 2 ∷ 1 ∷ 4 ∷ 1 ∷ []) table147 ∷ accepted (failed 5) 20 (0 ∷ 2 ∷ 1 ∷ 5 ∷ 2 ∷ []) table147
@@ -916,9 +911,8 @@ run7 = script (lent 188) (accepted (fresh 3 3) 0 [] table148 ∷ accepted (step 
     ∷ refused (step 1 (receipt 2 2)) 16 8 ∷ refused (step 1 (receipt 2 2)) 16 8 ∷ refused (step 1 (receipt 2 2)) 16 8 ∷ refused (step 1 (receipt 2 2)) 16 8
     ∷ accepted (step 0 (send 1)) 8 (1 ∷ 0 ∷ []) table154 ∷ accepted (step 1 checkpoint) 4 (1 ∷ []) table155 ∷ refused (step 1 (send 2)) 8 9
     ∷ refused (step 1 (receipt 0 1)) 16 9 ∷ refused (step 1 (receipt 0 1)) 16 9 ∷ refused (step 1 (receipt 2 2)) 16 8 ∷ refused (step 2 (send 0)) 8 9
-    ∷ refused (step 2 (send 1)) 8 9 ∷ refused (step 1 (send 0)) 8 9 ∷ accepted (line 0) 12 (0 ∷ 0 ∷ 0 ∷ []) table155
-    ∷ accepted (line 1) 12 (1 ∷ 3 ∷ 3 ∷ []) table155 ∷ accepted (line 2) 12 (1 ∷ 3 ∷ 3 ∷ []) table155 ∷ accepted (line 3) 12 (1 ∷ 3 ∷ 3 ∷ []) table155
-    ∷ accepted (line 9) 12 (1 ∷ 3 ∷ 3 ∷ []) table155 ∷ accepted (line 4294967295) 12 (1 ∷ 3 ∷ 3 ∷ []) table155
+    ∷ refused (step 2 (send 1)) 8 9 ∷ refused (step 1 (send 0)) 8 9 ∷ accepted (line 0) 12 (0 ∷ 0 ∷ 0 ∷ []) table155 ∷ refused (line 1) 12 15
+    ∷ refused (line 2) 12 15 ∷ refused (line 3) 12 15 ∷ refused (line 9) 12 15 ∷ refused (line 4294967295) 12 15
     ∷ accepted (failed 0) 20 (1 ∷ 3 ∷ 3 ∷ 0 ∷ 0 ∷ []) table155 ∷ accepted (failed 1) 20 (0 ∷ 3 ∷ 3 ∷ 1 ∷ 1 ∷ []) table155
     ∷ accepted (failed 2) 20 (1 ∷ 3 ∷ 3 ∷ 2 ∷ 1 ∷ []) table155 ∷ accepted (failed 3) 20 (0 ∷ 3 ∷ 3 ∷ 3 ∷ 2 ∷ []) table155
     ∷ accepted (failed 4) 20 (1 ∷ 3 ∷ 3 ∷ 4 ∷ 1 ∷ []) table155 ∷ accepted (failed 5) 20 (0 ∷ 3 ∷ 3 ∷ 5 ∷ 2 ∷ []) table155
@@ -992,9 +986,8 @@ run8 = script (lent 236) (accepted (fresh 3 4) 0 [] table156 ∷ accepted (step 
     ∷ accepted (step 2 (send 1)) 8 (1 ∷ 1 ∷ []) table166 ∷ accepted (step 2 (receipt 0 3)) 16 (1 ∷ 0 ∷ 4 ∷ 4 ∷ []) table167
     ∷ refused (step 2 (receipt 0 1)) 16 9 ∷ refused (step 2 checkpoint) 4 9 ∷ accepted (step 1 (receipt 2 1)) 16 (1 ∷ 0 ∷ 3 ∷ 4 ∷ []) table168
     ∷ refused (step 1 (receipt 0 2)) 16 9 ∷ refused (step 1 (receipt 2 1)) 16 8 ∷ accepted (line 0) 12 (0 ∷ 0 ∷ 0 ∷ []) table168
-    ∷ accepted (line 1) 12 (1 ∷ 2 ∷ 2 ∷ []) table168 ∷ accepted (line 2) 12 (4 ∷ 3 ∷ 4 ∷ []) table168 ∷ accepted (line 3) 12 (4 ∷ 4 ∷ 4 ∷ []) table168
-    ∷ accepted (line 12) 12 (4 ∷ 4 ∷ 4 ∷ []) table168 ∷ accepted (line 4294967295) 12 (4 ∷ 4 ∷ 4 ∷ []) table168
-    ∷ accepted (failed 0) 20 (4 ∷ 4 ∷ 4 ∷ 0 ∷ 0 ∷ []) table168 ∷ accepted (failed 1) 20 (1 ∷ 3 ∷ 2 ∷ 7 ∷ 3 ∷ []) table168
+    ∷ accepted (line 1) 12 (1 ∷ 2 ∷ 2 ∷ []) table168 ∷ refused (line 2) 12 15 ∷ refused (line 3) 12 15 ∷ refused (line 12) 12 15
+    ∷ refused (line 4294967295) 12 15 ∷ accepted (failed 0) 20 (4 ∷ 4 ∷ 4 ∷ 0 ∷ 0 ∷ []) table168 ∷ accepted (failed 1) 20 (1 ∷ 3 ∷ 2 ∷ 7 ∷ 3 ∷ []) table168
     ∷ accepted (failed 2) 20 (4 ∷ 3 ∷ 4 ∷ 2 ∷ 1 ∷ []) table168 ∷ accepted (failed 3) 20 (1 ∷ 3 ∷ 2 ∷ 7 ∷ 3 ∷ []) table168
     ∷ accepted (failed 4) 20 (4 ∷ 3 ∷ 2 ∷ 6 ∷ 2 ∷ []) table168 ∷ accepted (failed 5) 20 (1 ∷ 3 ∷ 2 ∷ 7 ∷ 3 ∷ []) table168
     ∷ accepted (failed 6) 20 (4 ∷ 3 ∷ 2 ∷ 6 ∷ 2 ∷ []) table168 ∷ accepted (failed 7) 20 (1 ∷ 3 ∷ 2 ∷ 7 ∷ 3 ∷ []) table168 ∷ refused (failed 8) 20 11
@@ -1096,9 +1089,8 @@ run9 = script (lent 332) (accepted (fresh 3 6) 0 [] table0 ∷ accepted (step 2 
     ∷ accepted (step 2 (receipt 1 2)) 16 (0 ∷ 0 ∷ 2 ∷ 4 ∷ []) table181 ∷ accepted (step 0 checkpoint) 4 (2 ∷ []) table182
     ∷ accepted (step 2 (send 1)) 8 (4 ∷ 0 ∷ []) table183 ∷ refused (step 1 (receipt 2 5)) 16 7 ∷ refused (step 0 (send 2)) 0 4
     ∷ refused (step 1 checkpoint) 4 9 ∷ accepted (step 2 (send 1)) 8 (5 ∷ 0 ∷ []) table184 ∷ refused (step 2 (receipt 1 5)) 16 9
-    ∷ refused (step 1 (send 0)) 8 9 ∷ refused (step 2 (receipt 1 3)) 16 9 ∷ accepted (line 0) 12 (0 ∷ 0 ∷ 0 ∷ []) table184
-    ∷ accepted (line 1) 12 (3 ∷ 4 ∷ 6 ∷ []) table184 ∷ accepted (line 2) 12 (4 ∷ 6 ∷ 6 ∷ []) table184 ∷ accepted (line 3) 12 (4 ∷ 6 ∷ 6 ∷ []) table184
-    ∷ accepted (line 18) 12 (4 ∷ 6 ∷ 6 ∷ []) table184 ∷ accepted (line 4294967295) 12 (4 ∷ 6 ∷ 6 ∷ []) table184
+    ∷ refused (step 1 (send 0)) 8 9 ∷ refused (step 2 (receipt 1 3)) 16 9 ∷ accepted (line 0) 12 (0 ∷ 0 ∷ 0 ∷ []) table184 ∷ refused (line 1) 12 15
+    ∷ refused (line 2) 12 15 ∷ refused (line 3) 12 15 ∷ refused (line 18) 12 15 ∷ refused (line 4294967295) 12 15
     ∷ accepted (failed 0) 20 (4 ∷ 6 ∷ 6 ∷ 0 ∷ 0 ∷ []) table184 ∷ accepted (failed 1) 20 (4 ∷ 6 ∷ 6 ∷ 1 ∷ 1 ∷ []) table184
     ∷ accepted (failed 2) 20 (4 ∷ 4 ∷ 6 ∷ 2 ∷ 1 ∷ []) table184 ∷ accepted (failed 3) 20 (4 ∷ 4 ∷ 6 ∷ 3 ∷ 2 ∷ []) table184
     ∷ accepted (failed 4) 20 (0 ∷ 6 ∷ 0 ∷ 5 ∷ 2 ∷ []) table184 ∷ accepted (failed 5) 20 (0 ∷ 6 ∷ 0 ∷ 5 ∷ 2 ∷ []) table184
@@ -1114,12 +1106,12 @@ table185 = bytes (1 ∷ 1 ∷ 1 ∷ 0 ∷ 0 ∷ 1 ∷ 0 ∷ 0 ∷ 0 ∷ [])
 
 -- A well laid table that no run makes: n = 1, E = 1.
 abbrev unmade0 : List Script
-unmade0 = script table185 (accepted (line 0) 4 (0 ∷ []) table185 ∷ accepted (line 1) 4 (1 ∷ []) table185 ∷ accepted (line 2) 4 (1 ∷ []) table185
-    ∷ accepted (line 1) 4 (1 ∷ []) table185 ∷ accepted (line 2) 4 (1 ∷ []) table185 ∷ accepted (line 4294967295) 4 (1 ∷ []) table185
-    ∷ accepted (failed 0) 12 (1 ∷ 0 ∷ 0 ∷ []) table185 ∷ accepted (failed 1) 12 (1 ∷ 1 ∷ 1 ∷ []) table185 ∷ refused (failed 2) 12 11
-    ∷ refused (failed 4294967295) 12 11 ∷ refused (step 0 (send 0)) 8 6 ∷ refused (step 0 (send 0)) 8 6 ∷ refused (step 0 (send 0)) 8 6
-    ∷ refused (step 1 checkpoint) 4 5 ∷ refused (step 0 (receipt 0 2)) 16 6 ∷ refused (step 0 checkpoint) 4 9 ∷ refused (step 0 checkpoint) 4 9
-    ∷ refused (step 0 (send 0)) 8 6 ∷ refused (step 0 (send 0)) 7 4 ∷ refused (step 0 (send 0)) 8 6 ∷ []) ∷ []
+unmade0 = script table185 (accepted (line 0) 4 (0 ∷ []) table185 ∷ refused (line 1) 4 15 ∷ refused (line 2) 4 15 ∷ refused (line 1) 4 15
+    ∷ refused (line 2) 4 15 ∷ refused (line 4294967295) 4 15 ∷ accepted (failed 0) 12 (1 ∷ 0 ∷ 0 ∷ []) table185
+    ∷ accepted (failed 1) 12 (1 ∷ 1 ∷ 1 ∷ []) table185 ∷ refused (failed 2) 12 11 ∷ refused (failed 4294967295) 12 11 ∷ refused (step 0 (send 0)) 8 6
+    ∷ refused (step 0 (send 0)) 8 6 ∷ refused (step 0 (send 0)) 8 6 ∷ refused (step 1 checkpoint) 4 5 ∷ refused (step 0 (receipt 0 2)) 16 6
+    ∷ refused (step 0 checkpoint) 4 9 ∷ refused (step 0 checkpoint) 4 9 ∷ refused (step 0 (send 0)) 8 6 ∷ refused (step 0 (send 0)) 7 4
+    ∷ refused (step 0 (send 0)) 8 6 ∷ []) ∷ []
 
 pub unmade0_agree : Agree unmade0
 unfolding fresh_on step_on line_on failed_on resend_on layout decoded well_laid word put_word put_words failure_answer failure_line rounds round ones ones_in in_transit
@@ -1136,13 +1128,12 @@ table188 = bytes (1 ∷ 3 ∷ 3 ∷ 3 ∷ 0 ∷ 1 ∷ 1 ∷ 0 ∷ 0 ∷ 1 ∷ 2 
 
 -- A well laid table that no run makes: n = 1, E = 3.
 abbrev unmade1 : List Script
-unmade1 = script table186 (accepted (line 0) 4 (0 ∷ []) table186 ∷ accepted (line 1) 4 (1 ∷ []) table186 ∷ accepted (line 2) 4 (1 ∷ []) table186
-    ∷ accepted (line 3) 4 (1 ∷ []) table186 ∷ accepted (line 4) 4 (1 ∷ []) table186 ∷ accepted (line 4294967295) 4 (1 ∷ []) table186
-    ∷ accepted (failed 0) 12 (1 ∷ 0 ∷ 0 ∷ []) table186 ∷ accepted (failed 1) 12 (1 ∷ 1 ∷ 1 ∷ []) table186 ∷ refused (failed 2) 12 11
-    ∷ refused (failed 4294967295) 12 11 ∷ accepted (step 0 checkpoint) 4 (2 ∷ []) table187 ∷ refused (step 0 (send 0)) 8 6
-    ∷ refused (step 1345826243 (send 0)) 8 5 ∷ refused (step 0 (send 0)) 8 6 ∷ refused (step 0 (send 0)) 8 6 ∷ refused (step 0 (send 0)) 8 6
-    ∷ accepted (step 0 checkpoint) 4 (3 ∷ []) table188 ∷ refused (step 0 (receipt 0 3)) 16 6 ∷ refused (step 0 checkpoint) 4 9 ∷ refused (step 0 (send 0)) 8 6
-    ∷ []) ∷ []
+unmade1 = script table186 (accepted (line 0) 4 (0 ∷ []) table186 ∷ accepted (line 1) 4 (1 ∷ []) table186 ∷ refused (line 2) 4 15 ∷ refused (line 3) 4 15
+    ∷ refused (line 4) 4 15 ∷ refused (line 4294967295) 4 15 ∷ accepted (failed 0) 12 (1 ∷ 0 ∷ 0 ∷ []) table186
+    ∷ accepted (failed 1) 12 (1 ∷ 1 ∷ 1 ∷ []) table186 ∷ refused (failed 2) 12 11 ∷ refused (failed 4294967295) 12 11
+    ∷ accepted (step 0 checkpoint) 4 (2 ∷ []) table187 ∷ refused (step 0 (send 0)) 8 6 ∷ refused (step 1345826243 (send 0)) 8 5
+    ∷ refused (step 0 (send 0)) 8 6 ∷ refused (step 0 (send 0)) 8 6 ∷ refused (step 0 (send 0)) 8 6 ∷ accepted (step 0 checkpoint) 4 (3 ∷ []) table188
+    ∷ refused (step 0 (receipt 0 3)) 16 6 ∷ refused (step 0 checkpoint) 4 9 ∷ refused (step 0 (send 0)) 8 6 ∷ []) ∷ []
 
 pub unmade1_agree : Agree unmade1
 unfolding fresh_on step_on line_on failed_on resend_on layout decoded well_laid word put_word put_words failure_answer failure_line rounds round ones ones_in in_transit
@@ -1156,13 +1147,13 @@ table190 = bytes (2 ∷ 1 ∷ 1 ∷ 0 ∷ 0 ∷ 2 ∷ 0 ∷ 0 ∷ 0 ∷ 1 ∷ 1 
 
 -- A well laid table that no run makes: n = 2, E = 1.
 abbrev unmade2 : List Script
-unmade2 = script table189 (accepted (line 0) 8 (0 ∷ 0 ∷ []) table189 ∷ accepted (line 1) 8 (1 ∷ 0 ∷ []) table189 ∷ accepted (line 2) 8 (1 ∷ 0 ∷ []) table189
-    ∷ accepted (line 2) 8 (1 ∷ 0 ∷ []) table189 ∷ accepted (line 3) 8 (1 ∷ 0 ∷ []) table189 ∷ accepted (line 4294967295) 8 (1 ∷ 0 ∷ []) table189
-    ∷ accepted (failed 0) 16 (1 ∷ 0 ∷ 0 ∷ 0 ∷ []) table189 ∷ accepted (failed 1) 16 (1 ∷ 0 ∷ 1 ∷ 1 ∷ []) table189
-    ∷ accepted (failed 2) 16 (1 ∷ 0 ∷ 2 ∷ 1 ∷ []) table189 ∷ accepted (failed 3) 16 (1 ∷ 0 ∷ 3 ∷ 2 ∷ []) table189 ∷ refused (failed 4) 16 11
-    ∷ refused (failed 4294967295) 16 11 ∷ accepted (step 1 checkpoint) 4 (1 ∷ []) table190 ∷ refused (step 0 checkpoint) 4 9 ∷ refused (step 0 checkpoint) 4 9
-    ∷ refused (step 1 (send 1)) 8 6 ∷ refused (step 0 (send 1)) 8 9 ∷ refused (step 0 (send 1)) 8 9 ∷ refused (step 0 (send 1)) 8 9
-    ∷ refused (step 0 (receipt 1 2)) 16 7 ∷ refused (step 1 (send 0)) 8 9 ∷ refused (step 1 (send 0)) 8 9 ∷ []) ∷ []
+unmade2 = script table189 (accepted (line 0) 8 (0 ∷ 0 ∷ []) table189 ∷ refused (line 1) 8 15 ∷ refused (line 2) 8 15 ∷ refused (line 2) 8 15
+    ∷ refused (line 3) 8 15 ∷ refused (line 4294967295) 8 15 ∷ accepted (failed 0) 16 (1 ∷ 0 ∷ 0 ∷ 0 ∷ []) table189
+    ∷ accepted (failed 1) 16 (1 ∷ 0 ∷ 1 ∷ 1 ∷ []) table189 ∷ accepted (failed 2) 16 (1 ∷ 0 ∷ 2 ∷ 1 ∷ []) table189
+    ∷ accepted (failed 3) 16 (1 ∷ 0 ∷ 3 ∷ 2 ∷ []) table189 ∷ refused (failed 4) 16 11 ∷ refused (failed 4294967295) 16 11
+    ∷ accepted (step 1 checkpoint) 4 (1 ∷ []) table190 ∷ refused (step 0 checkpoint) 4 9 ∷ refused (step 0 checkpoint) 4 9 ∷ refused (step 1 (send 1)) 8 6
+    ∷ refused (step 0 (send 1)) 8 9 ∷ refused (step 0 (send 1)) 8 9 ∷ refused (step 0 (send 1)) 8 9 ∷ refused (step 0 (receipt 1 2)) 16 7
+    ∷ refused (step 1 (send 0)) 8 9 ∷ refused (step 1 (send 0)) 8 9 ∷ []) ∷ []
 
 pub unmade2_agree : Agree unmade2
 unfolding fresh_on step_on line_on failed_on resend_on layout decoded well_laid word put_word put_words failure_answer failure_line rounds round ones ones_in in_transit
@@ -1176,14 +1167,13 @@ table192 = bytes (2 ∷ 2 ∷ 2 ∷ 0 ∷ 1 ∷ 3 ∷ 1 ∷ 1 ∷ 0 ∷ 4 ∷ 1 
 
 -- A well laid table that no run makes: n = 2, E = 2.
 abbrev unmade3 : List Script
-unmade3 = script table191 (accepted (line 0) 8 (0 ∷ 0 ∷ []) table191 ∷ accepted (line 1) 8 (2 ∷ 1 ∷ []) table191 ∷ accepted (line 2) 8 (2 ∷ 1 ∷ []) table191
-    ∷ accepted (line 4) 8 (2 ∷ 1 ∷ []) table191 ∷ accepted (line 5) 8 (2 ∷ 1 ∷ []) table191 ∷ accepted (line 4294967295) 8 (2 ∷ 1 ∷ []) table191
-    ∷ accepted (failed 0) 16 (0 ∷ 1 ∷ 1 ∷ 1 ∷ []) table191 ∷ accepted (failed 1) 16 (0 ∷ 1 ∷ 1 ∷ 1 ∷ []) table191
-    ∷ accepted (failed 2) 16 (0 ∷ 1 ∷ 3 ∷ 2 ∷ []) table191 ∷ accepted (failed 3) 16 (0 ∷ 1 ∷ 3 ∷ 2 ∷ []) table191 ∷ refused (failed 4) 16 11
-    ∷ refused (failed 4294967295) 16 11 ∷ refused (step 0 (send 1)) 8 9 ∷ refused (step 1 (receipt 0 1)) 72 4
-    ∷ accepted (step 1 (receipt 0 1)) 16 (0 ∷ 0 ∷ 1 ∷ 2 ∷ []) table192 ∷ refused (step 1 (send 0)) 0 4 ∷ refused (step 0 (send 1)) 8 9
-    ∷ refused (step 0 checkpoint) 4 9 ∷ refused (step 1 (send 0)) 8 9 ∷ refused (step 1 (receipt 0 1)) 16 8 ∷ refused (step 1 (send 1)) 0 4
-    ∷ refused (step 0 (send 1)) 8 9 ∷ []) ∷ []
+unmade3 = script table191 (accepted (line 0) 8 (0 ∷ 0 ∷ []) table191 ∷ refused (line 1) 8 15 ∷ refused (line 2) 8 15 ∷ refused (line 4) 8 15
+    ∷ refused (line 5) 8 15 ∷ refused (line 4294967295) 8 15 ∷ accepted (failed 0) 16 (0 ∷ 1 ∷ 1 ∷ 1 ∷ []) table191
+    ∷ accepted (failed 1) 16 (0 ∷ 1 ∷ 1 ∷ 1 ∷ []) table191 ∷ accepted (failed 2) 16 (0 ∷ 1 ∷ 3 ∷ 2 ∷ []) table191
+    ∷ accepted (failed 3) 16 (0 ∷ 1 ∷ 3 ∷ 2 ∷ []) table191 ∷ refused (failed 4) 16 11 ∷ refused (failed 4294967295) 16 11 ∷ refused (step 0 (send 1)) 8 9
+    ∷ refused (step 1 (receipt 0 1)) 72 4 ∷ accepted (step 1 (receipt 0 1)) 16 (0 ∷ 0 ∷ 1 ∷ 2 ∷ []) table192 ∷ refused (step 1 (send 0)) 0 4
+    ∷ refused (step 0 (send 1)) 8 9 ∷ refused (step 0 checkpoint) 4 9 ∷ refused (step 1 (send 0)) 8 9 ∷ refused (step 1 (receipt 0 1)) 16 8
+    ∷ refused (step 1 (send 1)) 0 4 ∷ refused (step 0 (send 1)) 8 9 ∷ []) ∷ []
 
 pub unmade3_agree : Agree unmade3
 unfolding fresh_on step_on line_on failed_on resend_on layout decoded well_laid word put_word put_words failure_answer failure_line rounds round ones ones_in in_transit
@@ -1197,13 +1187,13 @@ table194 = bytes (2 ∷ 3 ∷ 3 ∷ 1 ∷ 0 ∷ 4 ∷ 1 ∷ 3 ∷ 0 ∷ 1 ∷ 1 
 
 -- A well laid table that no run makes: n = 2, E = 3.
 abbrev unmade4 : List Script
-unmade4 = script table193 (accepted (line 0) 8 (0 ∷ 0 ∷ []) table193 ∷ accepted (line 1) 8 (2 ∷ 1 ∷ []) table193 ∷ accepted (line 2) 8 (3 ∷ 2 ∷ []) table193
-    ∷ accepted (line 6) 8 (3 ∷ 2 ∷ []) table193 ∷ accepted (line 7) 8 (3 ∷ 2 ∷ []) table193 ∷ accepted (line 4294967295) 8 (3 ∷ 2 ∷ []) table193
-    ∷ accepted (failed 0) 16 (0 ∷ 1 ∷ 3 ∷ 2 ∷ []) table193 ∷ accepted (failed 1) 16 (0 ∷ 1 ∷ 3 ∷ 2 ∷ []) table193
-    ∷ accepted (failed 2) 16 (0 ∷ 1 ∷ 3 ∷ 2 ∷ []) table193 ∷ accepted (failed 3) 16 (0 ∷ 1 ∷ 3 ∷ 2 ∷ []) table193 ∷ refused (failed 4) 16 11
-    ∷ refused (failed 4294967295) 16 11 ∷ accepted (step 1 (send 0)) 8 (1 ∷ 1 ∷ []) table194 ∷ refused (step 0 (receipt 1 1)) 16 8
-    ∷ refused (step 0 checkpoint) 4 9 ∷ refused (step 1 (send 1)) 8 6 ∷ refused (step 1 checkpoint) 4 9 ∷ refused (step 0 (receipt 1 1)) 16 8
-    ∷ refused (step 1 checkpoint) 4 9 ∷ refused (step 0 (receipt 1 2)) 16 7 ∷ refused (step 0 (send 1)) 8 9 ∷ refused (step 0 (receipt 1 1)) 16 8 ∷ []) ∷ []
+unmade4 = script table193 (accepted (line 0) 8 (0 ∷ 0 ∷ []) table193 ∷ accepted (line 1) 8 (2 ∷ 1 ∷ []) table193 ∷ refused (line 2) 8 15
+    ∷ refused (line 6) 8 15 ∷ refused (line 7) 8 15 ∷ refused (line 4294967295) 8 15 ∷ accepted (failed 0) 16 (0 ∷ 1 ∷ 3 ∷ 2 ∷ []) table193
+    ∷ accepted (failed 1) 16 (0 ∷ 1 ∷ 3 ∷ 2 ∷ []) table193 ∷ accepted (failed 2) 16 (0 ∷ 1 ∷ 3 ∷ 2 ∷ []) table193
+    ∷ accepted (failed 3) 16 (0 ∷ 1 ∷ 3 ∷ 2 ∷ []) table193 ∷ refused (failed 4) 16 11 ∷ refused (failed 4294967295) 16 11
+    ∷ accepted (step 1 (send 0)) 8 (1 ∷ 1 ∷ []) table194 ∷ refused (step 0 (receipt 1 1)) 16 8 ∷ refused (step 0 checkpoint) 4 9
+    ∷ refused (step 1 (send 1)) 8 6 ∷ refused (step 1 checkpoint) 4 9 ∷ refused (step 0 (receipt 1 1)) 16 8 ∷ refused (step 1 checkpoint) 4 9
+    ∷ refused (step 0 (receipt 1 2)) 16 7 ∷ refused (step 0 (send 1)) 8 9 ∷ refused (step 0 (receipt 1 1)) 16 8 ∷ []) ∷ []
 
 pub unmade4_agree : Agree unmade4
 unfolding fresh_on step_on line_on failed_on resend_on layout decoded well_laid word put_word put_words failure_answer failure_line rounds round ones ones_in in_transit
@@ -1220,7 +1210,7 @@ table196 = bytes (2 ∷ 4 ∷ 4 ∷ 8 ∷ 3 ∷ 3 ∷ 1 ∷ 1 ∷ 0 ∷ 1 ∷ 8 
 -- A well laid table that no run makes: n = 2, E = 4.
 abbrev unmade5 : List Script
 unmade5 = script table195 (accepted (line 0) 8 (0 ∷ 0 ∷ []) table195 ∷ accepted (line 1) 8 (2 ∷ 1 ∷ []) table195 ∷ accepted (line 2) 8 (2 ∷ 1 ∷ []) table195
-    ∷ accepted (line 8) 8 (2 ∷ 1 ∷ []) table195 ∷ accepted (line 9) 8 (4 ∷ 3 ∷ []) table195 ∷ accepted (line 4294967295) 8 (4 ∷ 3 ∷ []) table195
+    ∷ accepted (line 8) 8 (2 ∷ 1 ∷ []) table195 ∷ refused (line 9) 8 15 ∷ refused (line 4294967295) 8 15
     ∷ accepted (failed 0) 16 (4 ∷ 3 ∷ 0 ∷ 0 ∷ []) table195 ∷ accepted (failed 1) 16 (2 ∷ 1 ∷ 3 ∷ 2 ∷ []) table195
     ∷ accepted (failed 2) 16 (4 ∷ 1 ∷ 2 ∷ 1 ∷ []) table195 ∷ accepted (failed 3) 16 (2 ∷ 1 ∷ 3 ∷ 2 ∷ []) table195 ∷ refused (failed 4) 16 11
     ∷ refused (failed 4294967295) 16 11 ∷ refused (step 0 (send 1)) 8 9 ∷ accepted (step 1 (send 0)) 8 (1 ∷ 8 ∷ []) table196 ∷ refused (step 1 (send 0)) 8 9
@@ -1245,11 +1235,11 @@ table199 = bytes (2 ∷ 5 ∷ 5 ∷ 0 ∷ 1 ∷ 4 ∷ 1 ∷ 5 ∷ 0 ∷ 3 ∷ 1 
 
 -- A well laid table that no run makes: n = 2, E = 5.
 abbrev unmade6 : List Script
-unmade6 = script table197 (accepted (line 0) 8 (0 ∷ 0 ∷ []) table197 ∷ accepted (line 1) 8 (4 ∷ 4 ∷ []) table197 ∷ accepted (line 2) 8 (4 ∷ 4 ∷ []) table197
-    ∷ accepted (line 10) 8 (4 ∷ 4 ∷ []) table197 ∷ accepted (line 11) 8 (4 ∷ 4 ∷ []) table197 ∷ accepted (line 4294967295) 8 (4 ∷ 4 ∷ []) table197
-    ∷ accepted (failed 0) 16 (0 ∷ 4 ∷ 1 ∷ 1 ∷ []) table197 ∷ accepted (failed 1) 16 (0 ∷ 4 ∷ 1 ∷ 1 ∷ []) table197
-    ∷ accepted (failed 2) 16 (0 ∷ 0 ∷ 3 ∷ 2 ∷ []) table197 ∷ accepted (failed 3) 16 (0 ∷ 0 ∷ 3 ∷ 2 ∷ []) table197 ∷ refused (failed 4) 16 11
-    ∷ refused (failed 4294967295) 16 11 ∷ refused (step 0 (receipt 1 2)) 16 8 ∷ refused (step 0 (receipt 1 2)) 16 8 ∷ refused (step 0 (send 0)) 8 6
+unmade6 = script table197 (accepted (line 0) 8 (0 ∷ 0 ∷ []) table197 ∷ refused (line 1) 8 15 ∷ refused (line 2) 8 15 ∷ refused (line 10) 8 15
+    ∷ refused (line 11) 8 15 ∷ refused (line 4294967295) 8 15 ∷ accepted (failed 0) 16 (0 ∷ 4 ∷ 1 ∷ 1 ∷ []) table197
+    ∷ accepted (failed 1) 16 (0 ∷ 4 ∷ 1 ∷ 1 ∷ []) table197 ∷ accepted (failed 2) 16 (0 ∷ 0 ∷ 3 ∷ 2 ∷ []) table197
+    ∷ accepted (failed 3) 16 (0 ∷ 0 ∷ 3 ∷ 2 ∷ []) table197 ∷ refused (failed 4) 16 11 ∷ refused (failed 4294967295) 16 11
+    ∷ refused (step 0 (receipt 1 2)) 16 8 ∷ refused (step 0 (receipt 1 2)) 16 8 ∷ refused (step 0 (send 0)) 8 6
     ∷ accepted (step 1 checkpoint) 4 (1 ∷ []) table198 ∷ accepted (step 0 (receipt 1 4)) 16 (0 ∷ 0 ∷ 4 ∷ 5 ∷ []) table199 ∷ refused (step 1 checkpoint) 4 9
     ∷ refused (step 1 (receipt 0 1)) 16 9 ∷ refused (step 1 (send 0)) 8 9 ∷ refused (step 0 checkpoint) 4 9 ∷ refused (step 0 (receipt 1 1)) 16 9 ∷ []) ∷ []
 
@@ -1271,14 +1261,13 @@ table202 = bytes (2 ∷ 6 ∷ 6 ∷ 9 ∷ 2 ∷ 1 ∷ 0 ∷ 0 ∷ 0 ∷ 2 ∷ 7 
 
 -- A well laid table that no run makes: n = 2, E = 6.
 abbrev unmade7 : List Script
-unmade7 = script table200 (accepted (line 0) 8 (0 ∷ 0 ∷ []) table200 ∷ accepted (line 1) 8 (2 ∷ 5 ∷ []) table200 ∷ accepted (line 2) 8 (2 ∷ 5 ∷ []) table200
-    ∷ accepted (line 12) 8 (5 ∷ 5 ∷ []) table200 ∷ accepted (line 13) 8 (5 ∷ 5 ∷ []) table200 ∷ accepted (line 4294967295) 8 (5 ∷ 5 ∷ []) table200
-    ∷ accepted (failed 0) 16 (5 ∷ 0 ∷ 2 ∷ 1 ∷ []) table200 ∷ accepted (failed 1) 16 (3 ∷ 0 ∷ 3 ∷ 2 ∷ []) table200
-    ∷ accepted (failed 2) 16 (5 ∷ 0 ∷ 2 ∷ 1 ∷ []) table200 ∷ accepted (failed 3) 16 (3 ∷ 0 ∷ 3 ∷ 2 ∷ []) table200 ∷ refused (failed 4) 16 11
-    ∷ refused (failed 4294967295) 16 11 ∷ refused (step 1 (receipt 0 1)) 16 9 ∷ accepted (step 0 (receipt 1 3)) 16 (0 ∷ 0 ∷ 5 ∷ 6 ∷ []) table201
-    ∷ refused (step 1 (receipt 0 2)) 16 8 ∷ refused (step 0 (send 1)) 8 9 ∷ refused (step 1 (receipt 0 5)) 16 7 ∷ refused (step 1 (receipt 0 2)) 16 8
-    ∷ refused (step 1 (receipt 0 1)) 16 9 ∷ accepted (step 1 (send 0)) 8 (4 ∷ 0 ∷ []) table202 ∷ refused (step 0 (receipt 1 1)) 16 9
-    ∷ refused (step 1 checkpoint) 4 9 ∷ []) ∷ []
+unmade7 = script table200 (accepted (line 0) 8 (0 ∷ 0 ∷ []) table200 ∷ refused (line 1) 8 15 ∷ refused (line 2) 8 15 ∷ refused (line 12) 8 15
+    ∷ refused (line 13) 8 15 ∷ refused (line 4294967295) 8 15 ∷ accepted (failed 0) 16 (5 ∷ 0 ∷ 2 ∷ 1 ∷ []) table200
+    ∷ accepted (failed 1) 16 (3 ∷ 0 ∷ 3 ∷ 2 ∷ []) table200 ∷ accepted (failed 2) 16 (5 ∷ 0 ∷ 2 ∷ 1 ∷ []) table200
+    ∷ accepted (failed 3) 16 (3 ∷ 0 ∷ 3 ∷ 2 ∷ []) table200 ∷ refused (failed 4) 16 11 ∷ refused (failed 4294967295) 16 11
+    ∷ refused (step 1 (receipt 0 1)) 16 9 ∷ accepted (step 0 (receipt 1 3)) 16 (0 ∷ 0 ∷ 5 ∷ 6 ∷ []) table201 ∷ refused (step 1 (receipt 0 2)) 16 8
+    ∷ refused (step 0 (send 1)) 8 9 ∷ refused (step 1 (receipt 0 5)) 16 7 ∷ refused (step 1 (receipt 0 2)) 16 8 ∷ refused (step 1 (receipt 0 1)) 16 9
+    ∷ accepted (step 1 (send 0)) 8 (4 ∷ 0 ∷ []) table202 ∷ refused (step 0 (receipt 1 1)) 16 9 ∷ refused (step 1 checkpoint) 4 9 ∷ []) ∷ []
 
 pub unmade7_agree : Agree unmade7
 unfolding fresh_on step_on line_on failed_on resend_on layout decoded well_laid word put_word put_words failure_answer failure_line rounds round ones ones_in in_transit
@@ -1310,9 +1299,8 @@ table208 = bytes (3 ∷ 2 ∷ 2 ∷ 0 ∷ 1 ∷ 3 ∷ 1 ∷ 1 ∷ 0 ∷ 4 ∷ 1 
 
 -- A well laid table that no run makes: n = 3, E = 2.
 abbrev unmade8 : List Script
-unmade8 = script table203 (accepted (line 0) 12 (0 ∷ 0 ∷ 0 ∷ []) table203 ∷ accepted (line 1) 12 (0 ∷ 0 ∷ 1 ∷ []) table203
-    ∷ accepted (line 2) 12 (0 ∷ 0 ∷ 1 ∷ []) table203 ∷ accepted (line 6) 12 (0 ∷ 0 ∷ 1 ∷ []) table203 ∷ accepted (line 7) 12 (0 ∷ 0 ∷ 1 ∷ []) table203
-    ∷ accepted (line 4294967295) 12 (0 ∷ 0 ∷ 1 ∷ []) table203 ∷ accepted (failed 0) 20 (0 ∷ 0 ∷ 1 ∷ 0 ∷ 0 ∷ []) table203
+unmade8 = script table203 (accepted (line 0) 12 (0 ∷ 0 ∷ 0 ∷ []) table203 ∷ refused (line 1) 12 15 ∷ refused (line 2) 12 15 ∷ refused (line 6) 12 15
+    ∷ refused (line 7) 12 15 ∷ refused (line 4294967295) 12 15 ∷ accepted (failed 0) 20 (0 ∷ 0 ∷ 1 ∷ 0 ∷ 0 ∷ []) table203
     ∷ accepted (failed 1) 20 (0 ∷ 0 ∷ 1 ∷ 1 ∷ 1 ∷ []) table203 ∷ accepted (failed 2) 20 (0 ∷ 0 ∷ 1 ∷ 2 ∷ 1 ∷ []) table203
     ∷ accepted (failed 3) 20 (0 ∷ 0 ∷ 1 ∷ 3 ∷ 2 ∷ []) table203 ∷ accepted (failed 4) 20 (0 ∷ 0 ∷ 1 ∷ 4 ∷ 1 ∷ []) table203
     ∷ accepted (failed 5) 20 (0 ∷ 0 ∷ 1 ∷ 5 ∷ 2 ∷ []) table203 ∷ accepted (failed 6) 20 (0 ∷ 0 ∷ 1 ∷ 6 ∷ 2 ∷ []) table203
@@ -1336,9 +1324,8 @@ table210 = bytes (3 ∷ 3 ∷ 2 ∷ 0 ∷ 1 ∷ 4 ∷ 1 ∷ 1 ∷ 0 ∷ 3 ∷ 2 
 
 -- A well laid table that no run makes: n = 3, E = 3.
 abbrev unmade9 : List Script
-unmade9 = script table209 (accepted (line 0) 12 (0 ∷ 0 ∷ 0 ∷ []) table209 ∷ accepted (line 1) 12 (1 ∷ 2 ∷ 3 ∷ []) table209
-    ∷ accepted (line 2) 12 (1 ∷ 2 ∷ 3 ∷ []) table209 ∷ accepted (line 9) 12 (1 ∷ 3 ∷ 3 ∷ []) table209 ∷ accepted (line 10) 12 (1 ∷ 3 ∷ 3 ∷ []) table209
-    ∷ accepted (line 4294967295) 12 (1 ∷ 3 ∷ 3 ∷ []) table209 ∷ accepted (failed 0) 20 (0 ∷ 3 ∷ 1 ∷ 5 ∷ 2 ∷ []) table209
+unmade9 = script table209 (accepted (line 0) 12 (0 ∷ 0 ∷ 0 ∷ []) table209 ∷ refused (line 1) 12 15 ∷ refused (line 2) 12 15 ∷ refused (line 9) 12 15
+    ∷ refused (line 10) 12 15 ∷ refused (line 4294967295) 12 15 ∷ accepted (failed 0) 20 (0 ∷ 3 ∷ 1 ∷ 5 ∷ 2 ∷ []) table209
     ∷ accepted (failed 1) 20 (0 ∷ 3 ∷ 1 ∷ 5 ∷ 2 ∷ []) table209 ∷ accepted (failed 2) 20 (0 ∷ 3 ∷ 1 ∷ 7 ∷ 3 ∷ []) table209
     ∷ accepted (failed 3) 20 (0 ∷ 3 ∷ 1 ∷ 7 ∷ 3 ∷ []) table209 ∷ accepted (failed 4) 20 (0 ∷ 3 ∷ 1 ∷ 5 ∷ 2 ∷ []) table209
     ∷ accepted (failed 5) 20 (0 ∷ 3 ∷ 1 ∷ 5 ∷ 2 ∷ []) table209 ∷ accepted (failed 6) 20 (0 ∷ 3 ∷ 1 ∷ 7 ∷ 3 ∷ []) table209
@@ -1365,9 +1352,8 @@ table213 = bytes (3 ∷ 4 ∷ 4 ∷ 12 ∷ 3 ∷ 1 ∷ 12 ∷ 0 ∷ 0 ∷ 3 ∷ 
 
 -- A well laid table that no run makes: n = 3, E = 4.
 abbrev unmade10 : List Script
-unmade10 = script table211 (accepted (line 0) 12 (0 ∷ 0 ∷ 0 ∷ []) table211 ∷ accepted (line 1) 12 (1 ∷ 1 ∷ 3 ∷ []) table211
-    ∷ accepted (line 2) 12 (1 ∷ 1 ∷ 3 ∷ []) table211 ∷ accepted (line 12) 12 (1 ∷ 4 ∷ 3 ∷ []) table211 ∷ accepted (line 13) 12 (3 ∷ 4 ∷ 3 ∷ []) table211
-    ∷ accepted (line 4294967295) 12 (3 ∷ 4 ∷ 3 ∷ []) table211 ∷ accepted (failed 0) 20 (3 ∷ 4 ∷ 0 ∷ 4 ∷ 1 ∷ []) table211
+unmade10 = script table211 (accepted (line 0) 12 (0 ∷ 0 ∷ 0 ∷ []) table211 ∷ refused (line 1) 12 15 ∷ refused (line 2) 12 15 ∷ refused (line 12) 12 15
+    ∷ refused (line 13) 12 15 ∷ refused (line 4294967295) 12 15 ∷ accepted (failed 0) 20 (3 ∷ 4 ∷ 0 ∷ 4 ∷ 1 ∷ []) table211
     ∷ accepted (failed 1) 20 (1 ∷ 4 ∷ 0 ∷ 5 ∷ 2 ∷ []) table211 ∷ accepted (failed 2) 20 (3 ∷ 4 ∷ 0 ∷ 6 ∷ 2 ∷ []) table211
     ∷ accepted (failed 3) 20 (1 ∷ 4 ∷ 0 ∷ 7 ∷ 3 ∷ []) table211 ∷ accepted (failed 4) 20 (3 ∷ 4 ∷ 0 ∷ 4 ∷ 1 ∷ []) table211
     ∷ accepted (failed 5) 20 (1 ∷ 4 ∷ 0 ∷ 5 ∷ 2 ∷ []) table211 ∷ accepted (failed 6) 20 (3 ∷ 4 ∷ 0 ∷ 6 ∷ 2 ∷ []) table211
@@ -1399,9 +1385,8 @@ table217 = bytes (3 ∷ 4 ∷ 3 ∷ 1 ∷ 2 ∷ 3 ∷ 1 ∷ 1 ∷ 0 ∷ 3 ∷ 1 
 
 -- A well laid table that no run makes: n = 3, E = 4.
 abbrev unmade11 : List Script
-unmade11 = script table214 (accepted (line 0) 12 (0 ∷ 0 ∷ 0 ∷ []) table214 ∷ accepted (line 1) 12 (3 ∷ 4 ∷ 1 ∷ []) table214
-    ∷ accepted (line 2) 12 (3 ∷ 4 ∷ 1 ∷ []) table214 ∷ accepted (line 12) 12 (3 ∷ 4 ∷ 1 ∷ []) table214 ∷ accepted (line 13) 12 (3 ∷ 4 ∷ 1 ∷ []) table214
-    ∷ accepted (line 4294967295) 12 (3 ∷ 4 ∷ 1 ∷ []) table214 ∷ accepted (failed 0) 20 (3 ∷ 0 ∷ 1 ∷ 2 ∷ 1 ∷ []) table214
+unmade11 = script table214 (accepted (line 0) 12 (0 ∷ 0 ∷ 0 ∷ []) table214 ∷ refused (line 1) 12 15 ∷ refused (line 2) 12 15 ∷ refused (line 12) 12 15
+    ∷ refused (line 13) 12 15 ∷ refused (line 4294967295) 12 15 ∷ accepted (failed 0) 20 (3 ∷ 0 ∷ 1 ∷ 2 ∷ 1 ∷ []) table214
     ∷ accepted (failed 1) 20 (3 ∷ 0 ∷ 1 ∷ 3 ∷ 2 ∷ []) table214 ∷ accepted (failed 2) 20 (3 ∷ 0 ∷ 1 ∷ 2 ∷ 1 ∷ []) table214
     ∷ accepted (failed 3) 20 (3 ∷ 0 ∷ 1 ∷ 3 ∷ 2 ∷ []) table214 ∷ accepted (failed 4) 20 (3 ∷ 0 ∷ 1 ∷ 6 ∷ 2 ∷ []) table214
     ∷ accepted (failed 5) 20 (3 ∷ 0 ∷ 1 ∷ 7 ∷ 3 ∷ []) table214 ∷ accepted (failed 6) 20 (3 ∷ 0 ∷ 1 ∷ 6 ∷ 2 ∷ []) table214
@@ -1421,9 +1406,8 @@ table218 = bytes (3 ∷ 5 ∷ 5 ∷ 15 ∷ 1 ∷ 1 ∷ 15 ∷ 0 ∷ 0 ∷ 1 ∷ 
 
 -- A well laid table that no run makes: n = 3, E = 5.
 abbrev unmade12 : List Script
-unmade12 = script table218 (accepted (line 0) 12 (0 ∷ 0 ∷ 0 ∷ []) table218 ∷ accepted (line 1) 12 (1 ∷ 5 ∷ 4 ∷ []) table218
-    ∷ accepted (line 2) 12 (1 ∷ 5 ∷ 4 ∷ []) table218 ∷ accepted (line 15) 12 (1 ∷ 5 ∷ 4 ∷ []) table218 ∷ accepted (line 16) 12 (5 ∷ 5 ∷ 4 ∷ []) table218
-    ∷ accepted (line 4294967295) 12 (5 ∷ 5 ∷ 4 ∷ []) table218 ∷ accepted (failed 0) 20 (5 ∷ 0 ∷ 0 ∷ 6 ∷ 2 ∷ []) table218
+unmade12 = script table218 (accepted (line 0) 12 (0 ∷ 0 ∷ 0 ∷ []) table218 ∷ refused (line 1) 12 15 ∷ refused (line 2) 12 15 ∷ refused (line 15) 12 15
+    ∷ refused (line 16) 12 15 ∷ refused (line 4294967295) 12 15 ∷ accepted (failed 0) 20 (5 ∷ 0 ∷ 0 ∷ 6 ∷ 2 ∷ []) table218
     ∷ accepted (failed 1) 20 (5 ∷ 0 ∷ 0 ∷ 7 ∷ 3 ∷ []) table218 ∷ accepted (failed 2) 20 (5 ∷ 0 ∷ 0 ∷ 6 ∷ 2 ∷ []) table218
     ∷ accepted (failed 3) 20 (5 ∷ 0 ∷ 0 ∷ 7 ∷ 3 ∷ []) table218 ∷ accepted (failed 4) 20 (5 ∷ 0 ∷ 0 ∷ 6 ∷ 2 ∷ []) table218
     ∷ accepted (failed 5) 20 (5 ∷ 0 ∷ 0 ∷ 7 ∷ 3 ∷ []) table218 ∷ accepted (failed 6) 20 (5 ∷ 0 ∷ 0 ∷ 6 ∷ 2 ∷ []) table218
@@ -1473,9 +1457,8 @@ table225 = bytes (3 ∷ 6 ∷ 5 ∷ 1 ∷ 3 ∷ 3 ∷ 2 ∷ 1 ∷ 0 ∷ 2 ∷ 1 
 
 -- A well laid table that no run makes: n = 3, E = 6.
 abbrev unmade13 : List Script
-unmade13 = script table219 (accepted (line 0) 12 (0 ∷ 0 ∷ 0 ∷ []) table219 ∷ accepted (line 1) 12 (0 ∷ 3 ∷ 2 ∷ []) table219
-    ∷ accepted (line 2) 12 (0 ∷ 3 ∷ 6 ∷ []) table219 ∷ accepted (line 18) 12 (0 ∷ 3 ∷ 6 ∷ []) table219 ∷ accepted (line 19) 12 (0 ∷ 3 ∷ 6 ∷ []) table219
-    ∷ accepted (line 4294967295) 12 (0 ∷ 3 ∷ 6 ∷ []) table219 ∷ accepted (failed 0) 20 (0 ∷ 0 ∷ 0 ∷ 6 ∷ 2 ∷ []) table219
+unmade13 = script table219 (accepted (line 0) 12 (0 ∷ 0 ∷ 0 ∷ []) table219 ∷ refused (line 1) 12 15 ∷ refused (line 2) 12 15 ∷ refused (line 18) 12 15
+    ∷ refused (line 19) 12 15 ∷ refused (line 4294967295) 12 15 ∷ accepted (failed 0) 20 (0 ∷ 0 ∷ 0 ∷ 6 ∷ 2 ∷ []) table219
     ∷ accepted (failed 1) 20 (0 ∷ 0 ∷ 0 ∷ 7 ∷ 3 ∷ []) table219 ∷ accepted (failed 2) 20 (0 ∷ 0 ∷ 0 ∷ 6 ∷ 2 ∷ []) table219
     ∷ accepted (failed 3) 20 (0 ∷ 0 ∷ 0 ∷ 7 ∷ 3 ∷ []) table219 ∷ accepted (failed 4) 20 (0 ∷ 0 ∷ 0 ∷ 6 ∷ 2 ∷ []) table219
     ∷ accepted (failed 5) 20 (0 ∷ 0 ∷ 0 ∷ 7 ∷ 3 ∷ []) table219 ∷ accepted (failed 6) 20 (0 ∷ 0 ∷ 0 ∷ 6 ∷ 2 ∷ []) table219
@@ -1891,49 +1874,69 @@ unfolding grounds_on grounds layout decoded well_laid word put_word put_words fa
 grounds_rows_agree = refl
 
 abbrev table245 : List ℕ
-table245 = bytes (3 ∷ 4 ∷ 1 ∷ 0 ∷ 1 ∷ 3 ∷ 2 ∷ 1 ∷ 0 ∷ 0 ∷ 0 ∷ 0 ∷ 0 ∷ 0 ∷ 0 ∷ 0 ∷ 0 ∷ 0 ∷ 0 ∷ 0 ∷ 0 ∷ 2 ∷ 0 ∷ 0 ∷ 4 ∷ 0 ∷ 1 ∷ 0 ∷ 4 ∷ 0 ∷ 2 ∷ 0 ∷ 0 ∷ 0 ∷ 0
-    ∷ 0 ∷ 0 ∷ 0 ∷ 0 ∷ 0 ∷ 0 ∷ 0 ∷ 0 ∷ 0 ∷ 0 ∷ 0 ∷ 0 ∷ 0 ∷ 0 ∷ 0 ∷ 0 ∷ 0 ∷ 0 ∷ 0 ∷ 0 ∷ 0 ∷ 0 ∷ 0 ∷ 0 ∷ [])
-
-abbrev table246 : List ℕ
-table246 = bytes (2 ∷ 4 ∷ 2 ∷ 0 ∷ 0 ∷ 4 ∷ 1 ∷ 1 ∷ 0 ∷ 4 ∷ 1 ∷ 2 ∷ 0 ∷ 0 ∷ 0 ∷ 0 ∷ 0 ∷ 0 ∷ 0 ∷ 0 ∷ 0 ∷ 2 ∷ 0 ∷ 2 ∷ 3 ∷ 0 ∷ 1 ∷ 0 ∷ 3 ∷ 0 ∷ 2 ∷ 0 ∷ 0 ∷ 0 ∷ 0
+table245 = bytes (2 ∷ 4 ∷ 1 ∷ 0 ∷ 1 ∷ 3 ∷ 1 ∷ 1 ∷ 0 ∷ 0 ∷ 0 ∷ 0 ∷ 0 ∷ 0 ∷ 0 ∷ 0 ∷ 0 ∷ 0 ∷ 0 ∷ 0 ∷ 0 ∷ 2 ∷ 1 ∷ 0 ∷ 4 ∷ 0 ∷ 1 ∷ 0 ∷ 1 ∷ 1 ∷ 0 ∷ 0 ∷ 0 ∷ 0 ∷ 0
     ∷ 0 ∷ 0 ∷ 0 ∷ 0 ∷ 0 ∷ [])
 
+abbrev table246 : List ℕ
+table246 = bytes (2 ∷ 4 ∷ 4 ∷ 1 ∷ 3 ∷ 3 ∷ 1 ∷ 1 ∷ 0 ∷ 1 ∷ 1 ∷ 0 ∷ 0 ∷ 3 ∷ 1 ∷ 2 ∷ 1 ∷ 3 ∷ 1 ∷ 3 ∷ 1 ∷ 4 ∷ 3 ∷ 0 ∷ 4 ∷ 0 ∷ 1 ∷ 0 ∷ 4 ∷ 0 ∷ 3 ∷ 0 ∷ 4 ∷ 0 ∷ 2
+    ∷ 0 ∷ 2 ∷ 3 ∷ 0 ∷ 0 ∷ [])
+
 abbrev table247 : List ℕ
-table247 = bytes (2 ∷ 4 ∷ 3 ∷ 1 ∷ 2 ∷ 3 ∷ 1 ∷ 1 ∷ 0 ∷ 1 ∷ 1 ∷ 0 ∷ 0 ∷ 3 ∷ 1 ∷ 2 ∷ 1 ∷ 0 ∷ 0 ∷ 0 ∷ 0 ∷ 3 ∷ 1 ∷ 0 ∷ 4 ∷ 0 ∷ 1 ∷ 0 ∷ 4 ∷ 0 ∷ 2 ∷ 0 ∷ 1 ∷ 1 ∷ 0
+table247 = bytes (2 ∷ 4 ∷ 1 ∷ 0 ∷ 1 ∷ 3 ∷ 1 ∷ 1 ∷ 0 ∷ 0 ∷ 0 ∷ 0 ∷ 0 ∷ 0 ∷ 0 ∷ 0 ∷ 0 ∷ 0 ∷ 0 ∷ 0 ∷ 0 ∷ 2 ∷ 1 ∷ 0 ∷ 1 ∷ 1 ∷ 0 ∷ 0 ∷ 4 ∷ 0 ∷ 1 ∷ 0 ∷ 0 ∷ 0 ∷ 0
     ∷ 0 ∷ 0 ∷ 0 ∷ 0 ∷ 0 ∷ [])
 
 abbrev table248 : List ℕ
-table248 = bytes (2 ∷ 4 ∷ 3 ∷ 1 ∷ 2 ∷ 1 ∷ 1 ∷ 0 ∷ 0 ∷ 3 ∷ 1 ∷ 1 ∷ 1 ∷ 3 ∷ 1 ∷ 2 ∷ 1 ∷ 0 ∷ 0 ∷ 0 ∷ 0 ∷ 4 ∷ 2 ∷ 0 ∷ 1 ∷ 1 ∷ 0 ∷ 0 ∷ 4 ∷ 0 ∷ 2 ∷ 0 ∷ 1 ∷ 2 ∷ 0
-    ∷ 0 ∷ 4 ∷ 0 ∷ 1 ∷ 0 ∷ [])
+table248 = bytes (2 ∷ 4 ∷ 3 ∷ 1 ∷ 1 ∷ 4 ∷ 1 ∷ 1 ∷ 0 ∷ 1 ∷ 1 ∷ 0 ∷ 0 ∷ 3 ∷ 1 ∷ 1 ∷ 1 ∷ 0 ∷ 0 ∷ 0 ∷ 0 ∷ 3 ∷ 1 ∷ 1 ∷ 4 ∷ 0 ∷ 1 ∷ 0 ∷ 1 ∷ 1 ∷ 0 ∷ 0 ∷ 3 ∷ 0 ∷ 1
+    ∷ 1 ∷ 0 ∷ 0 ∷ 0 ∷ 0 ∷ [])
 
 abbrev table249 : List ℕ
-table249 = bytes (3 ∷ 4 ∷ 2 ∷ 1 ∷ 1 ∷ 1 ∷ 1 ∷ 0 ∷ 0 ∷ 3 ∷ 1 ∷ 1 ∷ 1 ∷ 0 ∷ 0 ∷ 0 ∷ 0 ∷ 0 ∷ 0 ∷ 0 ∷ 0 ∷ 4 ∷ 2 ∷ 1 ∷ 1 ∷ 1 ∷ 0 ∷ 0 ∷ 4 ∷ 0 ∷ 1 ∷ 1 ∷ 1 ∷ 2 ∷ 0
+table249 = bytes (2 ∷ 4 ∷ 3 ∷ 1 ∷ 0 ∷ 1 ∷ 1 ∷ 0 ∷ 0 ∷ 4 ∷ 1 ∷ 4 ∷ 0 ∷ 4 ∷ 1 ∷ 1 ∷ 0 ∷ 0 ∷ 0 ∷ 0 ∷ 0 ∷ 0 ∷ 0 ∷ 0 ∷ 0 ∷ 0 ∷ 0 ∷ 0 ∷ 0 ∷ 0 ∷ 0 ∷ 0 ∷ 0 ∷ 0 ∷ 0
+    ∷ 0 ∷ 0 ∷ 0 ∷ 0 ∷ 0 ∷ [])
+
+abbrev table250 : List ℕ
+table250 = bytes (2 ∷ 4 ∷ 2 ∷ 2 ∷ 1 ∷ 1 ∷ 2 ∷ 0 ∷ 0 ∷ 3 ∷ 1 ∷ 1 ∷ 2 ∷ 0 ∷ 0 ∷ 0 ∷ 0 ∷ 0 ∷ 0 ∷ 0 ∷ 0 ∷ 4 ∷ 0 ∷ 0 ∷ 4 ∷ 0 ∷ 1 ∷ 0 ∷ 1 ∷ 1 ∷ 0 ∷ 0 ∷ 4 ∷ 0 ∷ 1
+    ∷ 0 ∷ 1 ∷ 0 ∷ 0 ∷ 0 ∷ [])
+
+abbrev table251 : List ℕ
+table251 = bytes (3 ∷ 4 ∷ 1 ∷ 0 ∷ 1 ∷ 3 ∷ 2 ∷ 1 ∷ 0 ∷ 0 ∷ 0 ∷ 0 ∷ 0 ∷ 0 ∷ 0 ∷ 0 ∷ 0 ∷ 0 ∷ 0 ∷ 0 ∷ 0 ∷ 2 ∷ 0 ∷ 0 ∷ 4 ∷ 0 ∷ 1 ∷ 0 ∷ 4 ∷ 0 ∷ 2 ∷ 0 ∷ 0 ∷ 0 ∷ 0
+    ∷ 0 ∷ 0 ∷ 0 ∷ 0 ∷ 0 ∷ 1 ∷ 0 ∷ 0 ∷ 4 ∷ 0 ∷ 1 ∷ 0 ∷ 0 ∷ 0 ∷ 0 ∷ 0 ∷ 0 ∷ 0 ∷ 0 ∷ 0 ∷ 0 ∷ 0 ∷ 0 ∷ 0 ∷ [])
+
+abbrev table252 : List ℕ
+table252 = bytes (3 ∷ 4 ∷ 2 ∷ 1 ∷ 1 ∷ 1 ∷ 1 ∷ 0 ∷ 0 ∷ 3 ∷ 1 ∷ 1 ∷ 1 ∷ 0 ∷ 0 ∷ 0 ∷ 0 ∷ 0 ∷ 0 ∷ 0 ∷ 0 ∷ 4 ∷ 2 ∷ 1 ∷ 1 ∷ 1 ∷ 0 ∷ 0 ∷ 4 ∷ 0 ∷ 1 ∷ 1 ∷ 1 ∷ 2 ∷ 0
     ∷ 0 ∷ 3 ∷ 2 ∷ 1 ∷ 2 ∷ 4 ∷ 3 ∷ 0 ∷ 1 ∷ 2 ∷ 0 ∷ 0 ∷ 4 ∷ 1 ∷ 1 ∷ 2 ∷ 1 ∷ 3 ∷ 0 ∷ 0 ∷ 4 ∷ 1 ∷ 1 ∷ 2 ∷ [])
 
 -- Grounds where receipts lack their send, repeat, or stand behind what goes.
 abbrev grounds_stray : List Script
-grounds_stray = script table245 (grounded 0 24 0 (0 ∷ 0 ∷ 2 ∷ 1 ∷ 0 ∷ 0 ∷ []) ∷ grounded 1 24 0 (1 ∷ 0 ∷ 2 ∷ 1 ∷ 0 ∷ 0 ∷ [])
-    ∷ grounded 2 24 0 (0 ∷ 0 ∷ 1 ∷ 0 ∷ 0 ∷ 0 ∷ []) ∷ grounded 3 24 0 (1 ∷ 0 ∷ 1 ∷ 0 ∷ 0 ∷ 0 ∷ []) ∷ grounded 4 24 0 (0 ∷ 0 ∷ 2 ∷ 1 ∷ 1 ∷ 0 ∷ [])
-    ∷ grounded 5 24 0 (1 ∷ 0 ∷ 2 ∷ 1 ∷ 1 ∷ 0 ∷ []) ∷ grounded 6 24 0 (0 ∷ 0 ∷ 1 ∷ 0 ∷ 1 ∷ 0 ∷ []) ∷ grounded 7 24 0 (1 ∷ 0 ∷ 1 ∷ 0 ∷ 1 ∷ 0 ∷ [])
-    ∷ grounded 8 24 11 [] ∷ grounded 1 23 4 [] ∷ grounded 1 25 4 [] ∷ []) ∷ script table246 (grounded 0 16 0 (0 ∷ 0 ∷ 0 ∷ 0 ∷ [])
-    ∷ grounded 1 16 0 (1 ∷ 0 ∷ 0 ∷ 0 ∷ []) ∷ grounded 2 16 0 (2 ∷ 1 ∷ 1 ∷ 0 ∷ []) ∷ grounded 3 16 0 (1 ∷ 0 ∷ 1 ∷ 0 ∷ []) ∷ grounded 4 16 11 []
-    ∷ grounded 1 15 4 [] ∷ grounded 1 17 4 [] ∷ []) ∷ script table247 (grounded 0 16 0 (0 ∷ 0 ∷ 0 ∷ 0 ∷ []) ∷ grounded 1 16 0 (1 ∷ 0 ∷ 2 ∷ 2 ∷ [])
-    ∷ grounded 2 16 0 (0 ∷ 0 ∷ 1 ∷ 0 ∷ []) ∷ grounded 3 16 0 (1 ∷ 0 ∷ 2 ∷ 2 ∷ []) ∷ grounded 4 16 11 [] ∷ grounded 1 15 4 [] ∷ grounded 1 17 4 [] ∷ [])
-    ∷ script table248 (grounded 0 16 0 (0 ∷ 0 ∷ 0 ∷ 0 ∷ []) ∷ grounded 1 16 0 (1 ∷ 0 ∷ 2 ∷ 2 ∷ []) ∷ grounded 2 16 0 (0 ∷ 0 ∷ 1 ∷ 0 ∷ [])
+grounds_stray = script table121 (grounded 0 16 0 (0 ∷ 0 ∷ 0 ∷ 0 ∷ []) ∷ grounded 1 16 0 (1 ∷ 0 ∷ 2 ∷ 1 ∷ []) ∷ grounded 2 16 0 (0 ∷ 0 ∷ 1 ∷ 0 ∷ [])
+    ∷ grounded 3 16 0 (1 ∷ 0 ∷ 1 ∷ 0 ∷ []) ∷ grounded 4 16 11 [] ∷ grounded 1 15 4 [] ∷ grounded 1 17 4 [] ∷ [])
+    ∷ script table245 (grounded 0 16 0 (0 ∷ 0 ∷ 0 ∷ 0 ∷ []) ∷ grounded 1 16 0 (1 ∷ 0 ∷ 2 ∷ 1 ∷ []) ∷ grounded 2 16 0 (0 ∷ 0 ∷ 1 ∷ 0 ∷ [])
+    ∷ grounded 3 16 0 (1 ∷ 0 ∷ 2 ∷ 1 ∷ []) ∷ grounded 4 16 11 [] ∷ grounded 1 15 4 [] ∷ grounded 1 17 4 [] ∷ [])
+    ∷ script table246 (grounded 0 16 0 (0 ∷ 0 ∷ 0 ∷ 0 ∷ []) ∷ grounded 1 16 0 (1 ∷ 0 ∷ 2 ∷ 2 ∷ []) ∷ grounded 2 16 0 (0 ∷ 0 ∷ 1 ∷ 0 ∷ [])
     ∷ grounded 3 16 0 (1 ∷ 0 ∷ 2 ∷ 2 ∷ []) ∷ grounded 4 16 11 [] ∷ grounded 1 15 4 [] ∷ grounded 1 17 4 [] ∷ [])
-    ∷ script table249 (grounded 0 24 0 (0 ∷ 0 ∷ 0 ∷ 0 ∷ 0 ∷ 0 ∷ []) ∷ grounded 1 24 0 (1 ∷ 0 ∷ 2 ∷ 2 ∷ 2 ∷ 2 ∷ [])
-    ∷ grounded 2 24 0 (0 ∷ 0 ∷ 1 ∷ 0 ∷ 2 ∷ 2 ∷ []) ∷ grounded 3 24 0 (1 ∷ 0 ∷ 2 ∷ 2 ∷ 2 ∷ 2 ∷ []) ∷ grounded 4 24 0 (0 ∷ 0 ∷ 0 ∷ 0 ∷ 1 ∷ 0 ∷ [])
-    ∷ grounded 5 24 0 (1 ∷ 0 ∷ 2 ∷ 2 ∷ 2 ∷ 2 ∷ []) ∷ grounded 6 24 0 (0 ∷ 0 ∷ 1 ∷ 0 ∷ 2 ∷ 2 ∷ []) ∷ grounded 7 24 0 (1 ∷ 0 ∷ 2 ∷ 2 ∷ 2 ∷ 2 ∷ [])
-    ∷ grounded 8 24 11 [] ∷ grounded 1 23 4 [] ∷ grounded 1 25 4 [] ∷ []) ∷ script table226 (grounded 0 24 0 (2 ∷ 4 ∷ 2 ∷ 1 ∷ 2 ∷ 1 ∷ [])
-    ∷ grounded 1 24 0 (1 ∷ 0 ∷ 2 ∷ 1 ∷ 2 ∷ 1 ∷ []) ∷ grounded 2 24 0 (2 ∷ 4 ∷ 1 ∷ 0 ∷ 2 ∷ 1 ∷ []) ∷ grounded 3 24 0 (1 ∷ 0 ∷ 1 ∷ 0 ∷ 2 ∷ 1 ∷ [])
-    ∷ grounded 4 24 0 (2 ∷ 4 ∷ 2 ∷ 1 ∷ 1 ∷ 0 ∷ []) ∷ grounded 5 24 0 (1 ∷ 0 ∷ 2 ∷ 1 ∷ 1 ∷ 0 ∷ []) ∷ grounded 6 24 0 (2 ∷ 4 ∷ 1 ∷ 0 ∷ 1 ∷ 0 ∷ [])
+    ∷ script table247 (grounded 0 16 0 (0 ∷ 0 ∷ 0 ∷ 0 ∷ []) ∷ grounded 1 16 0 (1 ∷ 0 ∷ 2 ∷ 2 ∷ []) ∷ grounded 2 16 0 (0 ∷ 0 ∷ 1 ∷ 0 ∷ [])
+    ∷ grounded 3 16 0 (1 ∷ 0 ∷ 1 ∷ 0 ∷ []) ∷ grounded 4 16 11 [] ∷ grounded 1 15 4 [] ∷ grounded 1 17 4 [] ∷ [])
+    ∷ script table248 (grounded 0 16 0 (0 ∷ 0 ∷ 0 ∷ 0 ∷ []) ∷ grounded 1 16 0 (2 ∷ 1 ∷ 2 ∷ 1 ∷ []) ∷ grounded 2 16 0 (2 ∷ 1 ∷ 2 ∷ 1 ∷ [])
+    ∷ grounded 3 16 0 (2 ∷ 1 ∷ 2 ∷ 1 ∷ []) ∷ grounded 4 16 11 [] ∷ grounded 1 15 4 [] ∷ grounded 1 17 4 [] ∷ [])
+    ∷ script table249 (grounded 0 16 0 (2 ∷ 2 ∷ 0 ∷ 0 ∷ []) ∷ grounded 1 16 0 (1 ∷ 0 ∷ 0 ∷ 0 ∷ []) ∷ grounded 2 16 0 (2 ∷ 2 ∷ 1 ∷ 0 ∷ [])
+    ∷ grounded 3 16 0 (1 ∷ 0 ∷ 1 ∷ 0 ∷ []) ∷ grounded 4 16 11 [] ∷ grounded 1 15 4 [] ∷ grounded 1 17 4 [] ∷ [])
+    ∷ script table250 (grounded 0 16 0 (0 ∷ 0 ∷ 0 ∷ 0 ∷ []) ∷ grounded 1 16 0 (1 ∷ 0 ∷ 2 ∷ 1 ∷ []) ∷ grounded 2 16 0 (0 ∷ 0 ∷ 1 ∷ 0 ∷ [])
+    ∷ grounded 3 16 0 (1 ∷ 0 ∷ 2 ∷ 1 ∷ []) ∷ grounded 4 16 11 [] ∷ grounded 1 15 4 [] ∷ grounded 1 17 4 [] ∷ [])
+    ∷ script table251 (grounded 0 24 0 (0 ∷ 0 ∷ 2 ∷ 1 ∷ 0 ∷ 0 ∷ []) ∷ grounded 1 24 0 (1 ∷ 0 ∷ 2 ∷ 1 ∷ 2 ∷ 1 ∷ [])
+    ∷ grounded 2 24 0 (0 ∷ 0 ∷ 1 ∷ 0 ∷ 0 ∷ 0 ∷ []) ∷ grounded 3 24 0 (1 ∷ 0 ∷ 1 ∷ 0 ∷ 2 ∷ 1 ∷ []) ∷ grounded 4 24 0 (0 ∷ 0 ∷ 2 ∷ 1 ∷ 1 ∷ 0 ∷ [])
+    ∷ grounded 5 24 0 (1 ∷ 0 ∷ 2 ∷ 1 ∷ 1 ∷ 0 ∷ []) ∷ grounded 6 24 0 (0 ∷ 0 ∷ 1 ∷ 0 ∷ 1 ∷ 0 ∷ []) ∷ grounded 7 24 0 (1 ∷ 0 ∷ 1 ∷ 0 ∷ 1 ∷ 0 ∷ [])
+    ∷ grounded 8 24 11 [] ∷ grounded 1 23 4 [] ∷ grounded 1 25 4 [] ∷ []) ∷ script table252 (grounded 0 24 0 (0 ∷ 0 ∷ 0 ∷ 0 ∷ 0 ∷ 0 ∷ [])
+    ∷ grounded 1 24 0 (1 ∷ 0 ∷ 2 ∷ 2 ∷ 2 ∷ 2 ∷ []) ∷ grounded 2 24 0 (0 ∷ 0 ∷ 1 ∷ 0 ∷ 2 ∷ 2 ∷ []) ∷ grounded 3 24 0 (1 ∷ 0 ∷ 2 ∷ 2 ∷ 2 ∷ 2 ∷ [])
+    ∷ grounded 4 24 0 (0 ∷ 0 ∷ 0 ∷ 0 ∷ 1 ∷ 0 ∷ []) ∷ grounded 5 24 0 (1 ∷ 0 ∷ 2 ∷ 2 ∷ 2 ∷ 2 ∷ []) ∷ grounded 6 24 0 (0 ∷ 0 ∷ 1 ∷ 0 ∷ 2 ∷ 2 ∷ [])
+    ∷ grounded 7 24 0 (1 ∷ 0 ∷ 2 ∷ 2 ∷ 2 ∷ 2 ∷ []) ∷ grounded 8 24 11 [] ∷ grounded 1 23 4 [] ∷ grounded 1 25 4 [] ∷ [])
+    ∷ script table226 (grounded 0 24 0 (2 ∷ 4 ∷ 2 ∷ 1 ∷ 2 ∷ 1 ∷ []) ∷ grounded 1 24 0 (1 ∷ 0 ∷ 2 ∷ 1 ∷ 2 ∷ 1 ∷ [])
+    ∷ grounded 2 24 0 (2 ∷ 4 ∷ 1 ∷ 0 ∷ 2 ∷ 1 ∷ []) ∷ grounded 3 24 0 (1 ∷ 0 ∷ 1 ∷ 0 ∷ 2 ∷ 1 ∷ []) ∷ grounded 4 24 0 (2 ∷ 4 ∷ 2 ∷ 1 ∷ 1 ∷ 0 ∷ [])
+    ∷ grounded 5 24 0 (1 ∷ 0 ∷ 2 ∷ 1 ∷ 1 ∷ 0 ∷ []) ∷ grounded 6 24 0 (2 ∷ 4 ∷ 1 ∷ 0 ∷ 1 ∷ 0 ∷ []) ∷ grounded 7 24 0 (1 ∷ 0 ∷ 1 ∷ 0 ∷ 1 ∷ 0 ∷ [])
+    ∷ grounded 8 24 11 [] ∷ grounded 1 23 4 [] ∷ grounded 1 25 4 [] ∷ []) ∷ script table73 (grounded 0 24 0 (2 ∷ 3 ∷ 0 ∷ 0 ∷ 0 ∷ 0 ∷ [])
+    ∷ grounded 1 24 0 (1 ∷ 0 ∷ 0 ∷ 0 ∷ 0 ∷ 0 ∷ []) ∷ grounded 2 24 0 (2 ∷ 3 ∷ 1 ∷ 0 ∷ 0 ∷ 0 ∷ []) ∷ grounded 3 24 0 (1 ∷ 0 ∷ 1 ∷ 0 ∷ 0 ∷ 0 ∷ [])
+    ∷ grounded 4 24 0 (2 ∷ 3 ∷ 0 ∷ 0 ∷ 1 ∷ 0 ∷ []) ∷ grounded 5 24 0 (1 ∷ 0 ∷ 0 ∷ 0 ∷ 1 ∷ 0 ∷ []) ∷ grounded 6 24 0 (2 ∷ 3 ∷ 1 ∷ 0 ∷ 1 ∷ 0 ∷ [])
     ∷ grounded 7 24 0 (1 ∷ 0 ∷ 1 ∷ 0 ∷ 1 ∷ 0 ∷ []) ∷ grounded 8 24 11 [] ∷ grounded 1 23 4 [] ∷ grounded 1 25 4 [] ∷ [])
-    ∷ script table73 (grounded 0 24 0 (2 ∷ 3 ∷ 0 ∷ 0 ∷ 0 ∷ 0 ∷ []) ∷ grounded 1 24 0 (1 ∷ 0 ∷ 0 ∷ 0 ∷ 0 ∷ 0 ∷ [])
-    ∷ grounded 2 24 0 (2 ∷ 3 ∷ 1 ∷ 0 ∷ 0 ∷ 0 ∷ []) ∷ grounded 3 24 0 (1 ∷ 0 ∷ 1 ∷ 0 ∷ 0 ∷ 0 ∷ []) ∷ grounded 4 24 0 (2 ∷ 3 ∷ 0 ∷ 0 ∷ 1 ∷ 0 ∷ [])
-    ∷ grounded 5 24 0 (1 ∷ 0 ∷ 0 ∷ 0 ∷ 1 ∷ 0 ∷ []) ∷ grounded 6 24 0 (2 ∷ 3 ∷ 1 ∷ 0 ∷ 1 ∷ 0 ∷ []) ∷ grounded 7 24 0 (1 ∷ 0 ∷ 1 ∷ 0 ∷ 1 ∷ 0 ∷ [])
-    ∷ grounded 8 24 11 [] ∷ grounded 1 23 4 [] ∷ grounded 1 25 4 [] ∷ []) ∷ script table105 (grounded 0 16 0 (0 ∷ 0 ∷ 0 ∷ 0 ∷ [])
-    ∷ grounded 1 16 0 (2 ∷ 2 ∷ 2 ∷ 1 ∷ []) ∷ grounded 2 16 0 (2 ∷ 2 ∷ 2 ∷ 1 ∷ []) ∷ grounded 3 16 0 (2 ∷ 2 ∷ 2 ∷ 1 ∷ []) ∷ grounded 4 16 11 []
-    ∷ grounded 1 15 4 [] ∷ grounded 1 17 4 [] ∷ []) ∷ []
+    ∷ script table105 (grounded 0 16 0 (0 ∷ 0 ∷ 0 ∷ 0 ∷ []) ∷ grounded 1 16 0 (2 ∷ 2 ∷ 2 ∷ 1 ∷ []) ∷ grounded 2 16 0 (2 ∷ 2 ∷ 2 ∷ 1 ∷ [])
+    ∷ grounded 3 16 0 (2 ∷ 2 ∷ 2 ∷ 1 ∷ []) ∷ grounded 4 16 11 [] ∷ grounded 1 15 4 [] ∷ grounded 1 17 4 [] ∷ []) ∷ []
 
 pub grounds_stray_agree : Agree grounds_stray
 unfolding grounds_on grounds layout decoded well_laid word put_word put_words failure_line rounds round
@@ -2011,3 +2014,145 @@ grounds_unmade = script table185 (grounded 0 8 0 (0 ∷ 0 ∷ []) ∷ grounded 1
 pub grounds_unmade_agree : Agree grounds_unmade
 unfolding grounds_on grounds layout decoded well_laid word put_word put_words failure_line rounds round
 grounds_unmade_agree = refl
+
+abbrev table253 : List ℕ
+table253 = bytes (3 ∷ 2 ∷ 0 ∷ 0 ∷ 0 ∷ 0 ∷ 0 ∷ 0 ∷ 0 ∷ 0 ∷ 0 ∷ 0 ∷ 0 ∷ 1 ∷ 1 ∷ 0 ∷ 1 ∷ 1 ∷ 0 ∷ 0 ∷ 0 ∷ 0 ∷ 0 ∷ 0 ∷ 0 ∷ 0 ∷ 0 ∷ 0 ∷ 0 ∷ 0 ∷ 0 ∷ 0 ∷ 0 ∷ 0 ∷ 0
+    ∷ [])
+
+abbrev table254 : List ℕ
+table254 = bytes (3 ∷ 2 ∷ 0 ∷ 0 ∷ 0 ∷ 0 ∷ 0 ∷ 0 ∷ 0 ∷ 0 ∷ 0 ∷ 0 ∷ 0 ∷ 1 ∷ 1 ∷ 0 ∷ 1 ∷ 1 ∷ 0 ∷ 0 ∷ 0 ∷ 0 ∷ 0 ∷ 0 ∷ 1 ∷ 1 ∷ 0 ∷ 1 ∷ 1 ∷ 0 ∷ 0 ∷ 0 ∷ 0 ∷ 0 ∷ 0
+    ∷ [])
+
+abbrev table255 : List ℕ
+table255 = bytes (3 ∷ 2 ∷ 1 ∷ 1 ∷ 0 ∷ 1 ∷ 1 ∷ 0 ∷ 0 ∷ 0 ∷ 0 ∷ 0 ∷ 0 ∷ 1 ∷ 1 ∷ 0 ∷ 1 ∷ 1 ∷ 0 ∷ 0 ∷ 0 ∷ 0 ∷ 0 ∷ 0 ∷ 1 ∷ 1 ∷ 0 ∷ 1 ∷ 1 ∷ 0 ∷ 0 ∷ 0 ∷ 0 ∷ 0 ∷ 0
+    ∷ [])
+
+abbrev table256 : List ℕ
+table256 = bytes (3 ∷ 2 ∷ 1 ∷ 1 ∷ 0 ∷ 1 ∷ 1 ∷ 0 ∷ 0 ∷ 0 ∷ 0 ∷ 0 ∷ 0 ∷ 0 ∷ 0 ∷ 0 ∷ 0 ∷ 0 ∷ 0 ∷ 0 ∷ 0 ∷ 0 ∷ 0 ∷ 0 ∷ 1 ∷ 1 ∷ 0 ∷ 1 ∷ 1 ∷ 0 ∷ 0 ∷ 0 ∷ 0 ∷ 0 ∷ 0
+    ∷ [])
+
+abbrev table257 : List ℕ
+table257 = bytes (3 ∷ 2 ∷ 1 ∷ 1 ∷ 0 ∷ 1 ∷ 1 ∷ 0 ∷ 0 ∷ 0 ∷ 0 ∷ 0 ∷ 0 ∷ 0 ∷ 0 ∷ 0 ∷ 0 ∷ 0 ∷ 0 ∷ 0 ∷ 0 ∷ 0 ∷ 0 ∷ 0 ∷ 0 ∷ 0 ∷ 0 ∷ 0 ∷ 0 ∷ 0 ∷ 0 ∷ 0 ∷ 0 ∷ 0 ∷ 0
+    ∷ [])
+
+abbrev table258 : List ℕ
+table258 = bytes (3 ∷ 2 ∷ 1 ∷ 1 ∷ 0 ∷ 1 ∷ 1 ∷ 0 ∷ 0 ∷ 0 ∷ 0 ∷ 0 ∷ 0 ∷ 1 ∷ 1 ∷ 0 ∷ 1 ∷ 1 ∷ 0 ∷ 0 ∷ 0 ∷ 0 ∷ 0 ∷ 0 ∷ 0 ∷ 0 ∷ 0 ∷ 0 ∷ 0 ∷ 0 ∷ 0 ∷ 0 ∷ 0 ∷ 0 ∷ 0
+    ∷ [])
+
+-- Numbered lines, and 15 where a process has no saved state: of the worked controller, a fresh table, and as processes save.
+abbrev lines_saved : List Script
+lines_saved = script table7 (accepted (line 0) 12 (0 ∷ 0 ∷ 0 ∷ []) table7 ∷ accepted (line 1) 12 (1 ∷ 2 ∷ 1 ∷ []) table7 ∷ refused (line 2) 12 15
+    ∷ refused (line 2147483648) 12 15 ∷ refused (line 4294967295) 12 15 ∷ []) ∷ script table14 (accepted (line 0) 8 (0 ∷ 0 ∷ []) table14
+    ∷ refused (line 1) 8 15 ∷ refused (line 2147483648) 8 15 ∷ refused (line 4294967295) 8 15 ∷ []) ∷ script table14 (accepted (line 0) 8 (0 ∷ 0 ∷ []) table14
+    ∷ refused (line 1) 8 15 ∷ refused (line 2) 8 15 ∷ refused (line 0) 7 4 ∷ refused (line 1) 9 4 ∷ refused (line 1) 4 4 ∷ [])
+    ∷ script (lent 140) (accepted (fresh 3 2) 0 [] table141 ∷ refused (line 1) 12 15 ∷ accepted (step 1 checkpoint) 4 (1 ∷ []) table253
+    ∷ refused (line 1) 12 15 ∷ accepted (step 2 checkpoint) 4 (1 ∷ []) table254 ∷ refused (line 1) 12 15 ∷ accepted (step 0 checkpoint) 4 (1 ∷ []) table255
+    ∷ accepted (line 1) 12 (1 ∷ 1 ∷ 1 ∷ []) table255 ∷ []) ∷ script (lent 140) (accepted (fresh 3 2) 0 [] table141 ∷ refused (line 1) 12 15
+    ∷ accepted (step 2 checkpoint) 4 (1 ∷ []) table142 ∷ refused (line 1) 12 15 ∷ accepted (step 0 checkpoint) 4 (1 ∷ []) table256 ∷ refused (line 1) 12 15
+    ∷ accepted (step 1 checkpoint) 4 (1 ∷ []) table255 ∷ accepted (line 1) 12 (1 ∷ 1 ∷ 1 ∷ []) table255 ∷ [])
+    ∷ script (lent 140) (accepted (fresh 3 2) 0 [] table141 ∷ refused (line 1) 12 15 ∷ accepted (step 0 checkpoint) 4 (1 ∷ []) table257
+    ∷ refused (line 1) 12 15 ∷ accepted (step 1 checkpoint) 4 (1 ∷ []) table258 ∷ refused (line 1) 12 15 ∷ accepted (step 2 checkpoint) 4 (1 ∷ []) table255
+    ∷ accepted (line 1) 12 (1 ∷ 1 ∷ 1 ∷ []) table255 ∷ []) ∷ []
+
+pub lines_saved_agree : Agree lines_saved
+unfolding fresh_on step_on line_on failed_on resend_on layout decoded well_laid word put_word put_words failure_answer failure_line rounds round ones ones_in in_transit
+lines_saved_agree = refl
+
+abbrev table259 : List ℕ
+table259 = bytes (1 ∷ 6 ∷ 2 ∷ 2 ∷ 0 ∷ 1 ∷ 5 ∷ 0 ∷ 0 ∷ 2 ∷ 2 ∷ 0 ∷ 0 ∷ 0 ∷ 0 ∷ 0 ∷ 0 ∷ 0 ∷ 0 ∷ 0 ∷ 0 ∷ 0 ∷ 0 ∷ 0 ∷ 0 ∷ 0 ∷ 0 ∷ 0 ∷ 0 ∷ [])
+
+abbrev table260 : List ℕ
+table260 = bytes (2 ∷ 6 ∷ 4 ∷ 0 ∷ 1 ∷ 3 ∷ 1 ∷ 1 ∷ 0 ∷ 1 ∷ 1 ∷ 0 ∷ 0 ∷ 2 ∷ 4 ∷ 0 ∷ 0 ∷ 1 ∷ 0 ∷ 0 ∷ 0 ∷ 0 ∷ 0 ∷ 0 ∷ 0 ∷ 0 ∷ 0 ∷ 0 ∷ 0 ∷ 6 ∷ 2 ∷ 0 ∷ 4 ∷ 0 ∷ 1
+    ∷ 0 ∷ 2 ∷ 3 ∷ 0 ∷ 0 ∷ 4 ∷ 0 ∷ 1 ∷ 3 ∷ 1 ∷ 3 ∷ 0 ∷ 0 ∷ 1 ∷ 6 ∷ 0 ∷ 0 ∷ 1 ∷ 2 ∷ 0 ∷ 0 ∷ [])
+
+abbrev table261 : List ℕ
+table261 = bytes (2 ∷ 6 ∷ 1 ∷ 0 ∷ 0 ∷ 1 ∷ 0 ∷ 0 ∷ 0 ∷ 0 ∷ 0 ∷ 0 ∷ 0 ∷ 0 ∷ 0 ∷ 0 ∷ 0 ∷ 0 ∷ 0 ∷ 0 ∷ 0 ∷ 0 ∷ 0 ∷ 0 ∷ 0 ∷ 0 ∷ 0 ∷ 0 ∷ 0 ∷ 2 ∷ 1 ∷ 0 ∷ 2 ∷ 0 ∷ 0
+    ∷ 0 ∷ 1 ∷ 1 ∷ 0 ∷ 0 ∷ 0 ∷ 0 ∷ 0 ∷ 0 ∷ 0 ∷ 0 ∷ 0 ∷ 0 ∷ 0 ∷ 0 ∷ 0 ∷ 0 ∷ 0 ∷ 0 ∷ 0 ∷ 0 ∷ [])
+
+abbrev table262 : List ℕ
+table262 = bytes (2 ∷ 6 ∷ 1 ∷ 3 ∷ 0 ∷ 1 ∷ 3 ∷ 0 ∷ 0 ∷ 0 ∷ 0 ∷ 0 ∷ 0 ∷ 0 ∷ 0 ∷ 0 ∷ 0 ∷ 0 ∷ 0 ∷ 0 ∷ 0 ∷ 0 ∷ 0 ∷ 0 ∷ 0 ∷ 0 ∷ 0 ∷ 0 ∷ 0 ∷ 2 ∷ 7 ∷ 1 ∷ 3 ∷ 0 ∷ 1
+    ∷ 0 ∷ 2 ∷ 7 ∷ 0 ∷ 0 ∷ 0 ∷ 0 ∷ 0 ∷ 0 ∷ 0 ∷ 0 ∷ 0 ∷ 0 ∷ 0 ∷ 0 ∷ 0 ∷ 0 ∷ 0 ∷ 0 ∷ 0 ∷ 0 ∷ [])
+
+abbrev table263 : List ℕ
+table263 = bytes (2 ∷ 6 ∷ 1 ∷ 1 ∷ 0 ∷ 1 ∷ 1 ∷ 0 ∷ 0 ∷ 0 ∷ 0 ∷ 0 ∷ 0 ∷ 0 ∷ 0 ∷ 0 ∷ 0 ∷ 0 ∷ 0 ∷ 0 ∷ 0 ∷ 0 ∷ 0 ∷ 0 ∷ 0 ∷ 0 ∷ 0 ∷ 0 ∷ 0 ∷ 2 ∷ 0 ∷ 1 ∷ 3 ∷ 0 ∷ 1
+    ∷ 0 ∷ 4 ∷ 0 ∷ 1 ∷ 0 ∷ 0 ∷ 0 ∷ 0 ∷ 0 ∷ 0 ∷ 0 ∷ 0 ∷ 0 ∷ 0 ∷ 0 ∷ 0 ∷ 0 ∷ 0 ∷ 0 ∷ 0 ∷ 0 ∷ [])
+
+abbrev table264 : List ℕ
+table264 = bytes (3 ∷ 6 ∷ 1 ∷ 2 ∷ 0 ∷ 2 ∷ 2 ∷ 0 ∷ 0 ∷ 0 ∷ 0 ∷ 0 ∷ 0 ∷ 0 ∷ 0 ∷ 0 ∷ 0 ∷ 0 ∷ 0 ∷ 0 ∷ 0 ∷ 0 ∷ 0 ∷ 0 ∷ 0 ∷ 0 ∷ 0 ∷ 0 ∷ 0 ∷ 2 ∷ 1 ∷ 0 ∷ 1 ∷ 0 ∷ 0
+    ∷ 0 ∷ 1 ∷ 1 ∷ 0 ∷ 0 ∷ 0 ∷ 0 ∷ 0 ∷ 0 ∷ 0 ∷ 0 ∷ 0 ∷ 0 ∷ 0 ∷ 0 ∷ 0 ∷ 0 ∷ 0 ∷ 0 ∷ 0 ∷ 0 ∷ 2 ∷ 1 ∷ 0 ∷ 1 ∷ 18 ∷ 0 ∷ 0 ∷ 1 ∷ 1 ∷ 0 ∷ 0 ∷ 0 ∷ 0 ∷ 0 ∷ 0 ∷ 0 ∷ 0
+    ∷ 0 ∷ 0 ∷ 0 ∷ 0 ∷ 0 ∷ 0 ∷ 0 ∷ 0 ∷ 0 ∷ 0 ∷ [])
+
+abbrev table265 : List ℕ
+table265 = bytes (1 ∷ 6 ∷ 2 ∷ 5 ∷ 0 ∷ 1 ∷ 6 ∷ 0 ∷ 0 ∷ 2 ∷ 5 ∷ 0 ∷ 0 ∷ 0 ∷ 0 ∷ 0 ∷ 0 ∷ 0 ∷ 0 ∷ 0 ∷ 0 ∷ 0 ∷ 0 ∷ 0 ∷ 0 ∷ 0 ∷ 0 ∷ 0 ∷ 0 ∷ [])
+
+-- Numbered lines where numbers fall, are skipped, or are 0.
+abbrev lines_fallen : List Script
+lines_fallen = script table259 (accepted (line 0) 4 (0 ∷ []) table259 ∷ accepted (line 1) 4 (1 ∷ []) table259 ∷ accepted (line 2) 4 (1 ∷ []) table259
+    ∷ accepted (line 3) 4 (1 ∷ []) table259 ∷ accepted (line 4) 4 (1 ∷ []) table259 ∷ accepted (line 5) 4 (1 ∷ []) table259 ∷ refused (line 6) 4 15
+    ∷ refused (line 2147483648) 4 15 ∷ refused (line 4294967295) 4 15 ∷ []) ∷ script table260 (accepted (line 0) 8 (0 ∷ 0 ∷ []) table260
+    ∷ accepted (line 1) 8 (2 ∷ 2 ∷ []) table260 ∷ accepted (line 2) 8 (3 ∷ 2 ∷ []) table260 ∷ accepted (line 3) 8 (3 ∷ 2 ∷ []) table260
+    ∷ accepted (line 4) 8 (3 ∷ 5 ∷ []) table260 ∷ refused (line 5) 8 15 ∷ refused (line 2147483648) 8 15 ∷ refused (line 4294967295) 8 15 ∷ [])
+    ∷ script table261 (accepted (line 0) 8 (0 ∷ 0 ∷ []) table261 ∷ refused (line 1) 8 15 ∷ refused (line 2147483648) 8 15 ∷ refused (line 4294967295) 8 15
+    ∷ []) ∷ script table262 (accepted (line 0) 8 (0 ∷ 0 ∷ []) table262 ∷ accepted (line 1) 8 (1 ∷ 2 ∷ []) table262 ∷ accepted (line 2) 8 (1 ∷ 2 ∷ []) table262
+    ∷ accepted (line 3) 8 (1 ∷ 2 ∷ []) table262 ∷ refused (line 4) 8 15 ∷ refused (line 2147483648) 8 15 ∷ refused (line 4294967295) 8 15 ∷ [])
+    ∷ script table263 (accepted (line 0) 8 (0 ∷ 0 ∷ []) table263 ∷ refused (line 1) 8 15 ∷ refused (line 2147483648) 8 15 ∷ refused (line 4294967295) 8 15
+    ∷ []) ∷ script table264 (accepted (line 0) 12 (0 ∷ 0 ∷ 0 ∷ []) table264 ∷ accepted (line 1) 12 (1 ∷ 2 ∷ 1 ∷ []) table264 ∷ refused (line 2) 12 15
+    ∷ refused (line 2147483648) 12 15 ∷ refused (line 4294967295) 12 15 ∷ []) ∷ script table265 (accepted (line 0) 4 (0 ∷ []) table265
+    ∷ accepted (line 1) 4 (1 ∷ []) table265 ∷ accepted (line 2) 4 (1 ∷ []) table265 ∷ accepted (line 3) 4 (1 ∷ []) table265
+    ∷ accepted (line 4) 4 (1 ∷ []) table265 ∷ accepted (line 5) 4 (1 ∷ []) table265 ∷ accepted (line 6) 4 (1 ∷ []) table265 ∷ refused (line 7) 4 15
+    ∷ refused (line 2147483648) 4 15 ∷ refused (line 4294967295) 4 15 ∷ []) ∷ []
+
+pub lines_fallen_agree : Agree lines_fallen
+unfolding fresh_on step_on line_on failed_on resend_on layout decoded well_laid word put_word put_words failure_answer failure_line rounds round ones ones_in in_transit
+lines_fallen_agree = refl
+
+-- The last numbered lines of the tables that the runs left, and 4 before 15.
+abbrev lines_made : List Script
+lines_made = script table107 (accepted (line 0) 4 (0 ∷ []) table107 ∷ accepted (line 1) 4 (1 ∷ []) table107 ∷ refused (line 2) 4 15 ∷ refused (line 3) 4 15
+    ∷ refused (line 1) 3 4 ∷ refused (line 2) 5 4 ∷ refused (line 2) 0 4 ∷ []) ∷ script table109 (accepted (line 0) 4 (0 ∷ []) table109
+    ∷ accepted (line 1) 4 (1 ∷ []) table109 ∷ refused (line 2) 4 15 ∷ refused (line 3) 4 15 ∷ refused (line 1) 3 4 ∷ refused (line 2) 5 4
+    ∷ refused (line 2) 0 4 ∷ []) ∷ script table112 (accepted (line 0) 8 (0 ∷ 0 ∷ []) table112 ∷ refused (line 1) 8 15 ∷ refused (line 2) 8 15
+    ∷ refused (line 0) 7 4 ∷ refused (line 1) 9 4 ∷ refused (line 1) 4 4 ∷ []) ∷ script table119 (accepted (line 0) 8 (0 ∷ 0 ∷ []) table119
+    ∷ refused (line 1) 8 15 ∷ refused (line 2) 8 15 ∷ refused (line 0) 7 4 ∷ refused (line 1) 9 4 ∷ refused (line 1) 4 4 ∷ [])
+    ∷ script table127 (accepted (line 0) 8 (0 ∷ 0 ∷ []) table127 ∷ refused (line 1) 8 15 ∷ refused (line 2) 8 15 ∷ refused (line 0) 7 4 ∷ refused (line 1) 9 4
+    ∷ refused (line 1) 4 4 ∷ []) ∷ script table140 (accepted (line 1) 8 (1 ∷ 1 ∷ []) table140 ∷ accepted (line 2) 8 (4 ∷ 2 ∷ []) table140
+    ∷ refused (line 3) 8 15 ∷ refused (line 4) 8 15 ∷ refused (line 2) 7 4 ∷ refused (line 3) 9 4 ∷ refused (line 3) 4 4 ∷ [])
+    ∷ script table147 (accepted (line 0) 12 (0 ∷ 0 ∷ 0 ∷ []) table147 ∷ refused (line 1) 12 15 ∷ refused (line 2) 12 15 ∷ refused (line 0) 11 4
+    ∷ refused (line 1) 13 4 ∷ refused (line 1) 8 4 ∷ []) ∷ script table155 (accepted (line 0) 12 (0 ∷ 0 ∷ 0 ∷ []) table155 ∷ refused (line 1) 12 15
+    ∷ refused (line 2) 12 15 ∷ refused (line 0) 11 4 ∷ refused (line 1) 13 4 ∷ refused (line 1) 8 4 ∷ [])
+    ∷ script table168 (accepted (line 0) 12 (0 ∷ 0 ∷ 0 ∷ []) table168 ∷ accepted (line 1) 12 (1 ∷ 2 ∷ 2 ∷ []) table168 ∷ refused (line 2) 12 15
+    ∷ refused (line 3) 12 15 ∷ refused (line 1) 11 4 ∷ refused (line 2) 13 4 ∷ refused (line 2) 8 4 ∷ [])
+    ∷ script table184 (accepted (line 0) 12 (0 ∷ 0 ∷ 0 ∷ []) table184 ∷ refused (line 1) 12 15 ∷ refused (line 2) 12 15 ∷ refused (line 0) 11 4
+    ∷ refused (line 1) 13 4 ∷ refused (line 1) 8 4 ∷ []) ∷ []
+
+pub lines_made_agree : Agree lines_made
+unfolding fresh_on step_on line_on failed_on resend_on layout decoded well_laid word put_word put_words failure_answer failure_line rounds round ones ones_in in_transit
+lines_made_agree = refl
+
+-- The last numbered lines of the well laid tables that no run makes, and 4 before 15.
+abbrev lines_unmade : List Script
+lines_unmade = script table185 (accepted (line 0) 4 (0 ∷ []) table185 ∷ refused (line 1) 4 15 ∷ refused (line 2) 4 15 ∷ refused (line 0) 3 4
+    ∷ refused (line 1) 5 4 ∷ refused (line 1) 0 4 ∷ []) ∷ script table186 (accepted (line 0) 4 (0 ∷ []) table186 ∷ accepted (line 1) 4 (1 ∷ []) table186
+    ∷ refused (line 2) 4 15 ∷ refused (line 3) 4 15 ∷ refused (line 1) 3 4 ∷ refused (line 2) 5 4 ∷ refused (line 2) 0 4 ∷ [])
+    ∷ script table189 (accepted (line 0) 8 (0 ∷ 0 ∷ []) table189 ∷ refused (line 1) 8 15 ∷ refused (line 2) 8 15 ∷ refused (line 0) 7 4 ∷ refused (line 1) 9 4
+    ∷ refused (line 1) 4 4 ∷ []) ∷ script table191 (accepted (line 0) 8 (0 ∷ 0 ∷ []) table191 ∷ refused (line 1) 8 15 ∷ refused (line 2) 8 15
+    ∷ refused (line 0) 7 4 ∷ refused (line 1) 9 4 ∷ refused (line 1) 4 4 ∷ []) ∷ script table193 (accepted (line 0) 8 (0 ∷ 0 ∷ []) table193
+    ∷ accepted (line 1) 8 (2 ∷ 1 ∷ []) table193 ∷ refused (line 2) 8 15 ∷ refused (line 3) 8 15 ∷ refused (line 1) 7 4 ∷ refused (line 2) 9 4
+    ∷ refused (line 2) 4 4 ∷ []) ∷ script table195 (accepted (line 7) 8 (2 ∷ 1 ∷ []) table195 ∷ accepted (line 8) 8 (2 ∷ 1 ∷ []) table195
+    ∷ refused (line 9) 8 15 ∷ refused (line 10) 8 15 ∷ refused (line 8) 7 4 ∷ refused (line 9) 9 4 ∷ refused (line 9) 4 4 ∷ [])
+    ∷ script table197 (accepted (line 0) 8 (0 ∷ 0 ∷ []) table197 ∷ refused (line 1) 8 15 ∷ refused (line 2) 8 15 ∷ refused (line 0) 7 4 ∷ refused (line 1) 9 4
+    ∷ refused (line 1) 4 4 ∷ []) ∷ script table200 (accepted (line 0) 8 (0 ∷ 0 ∷ []) table200 ∷ refused (line 1) 8 15 ∷ refused (line 2) 8 15
+    ∷ refused (line 0) 7 4 ∷ refused (line 1) 9 4 ∷ refused (line 1) 4 4 ∷ []) ∷ script table203 (accepted (line 0) 12 (0 ∷ 0 ∷ 0 ∷ []) table203
+    ∷ refused (line 1) 12 15 ∷ refused (line 2) 12 15 ∷ refused (line 0) 11 4 ∷ refused (line 1) 13 4 ∷ refused (line 1) 8 4 ∷ [])
+    ∷ script table209 (accepted (line 0) 12 (0 ∷ 0 ∷ 0 ∷ []) table209 ∷ refused (line 1) 12 15 ∷ refused (line 2) 12 15 ∷ refused (line 0) 11 4
+    ∷ refused (line 1) 13 4 ∷ refused (line 1) 8 4 ∷ []) ∷ script table211 (accepted (line 0) 12 (0 ∷ 0 ∷ 0 ∷ []) table211 ∷ refused (line 1) 12 15
+    ∷ refused (line 2) 12 15 ∷ refused (line 0) 11 4 ∷ refused (line 1) 13 4 ∷ refused (line 1) 8 4 ∷ [])
+    ∷ script table214 (accepted (line 0) 12 (0 ∷ 0 ∷ 0 ∷ []) table214 ∷ refused (line 1) 12 15 ∷ refused (line 2) 12 15 ∷ refused (line 0) 11 4
+    ∷ refused (line 1) 13 4 ∷ refused (line 1) 8 4 ∷ []) ∷ script table218 (accepted (line 0) 12 (0 ∷ 0 ∷ 0 ∷ []) table218 ∷ refused (line 1) 12 15
+    ∷ refused (line 2) 12 15 ∷ refused (line 0) 11 4 ∷ refused (line 1) 13 4 ∷ refused (line 1) 8 4 ∷ [])
+    ∷ script table219 (accepted (line 0) 12 (0 ∷ 0 ∷ 0 ∷ []) table219 ∷ refused (line 1) 12 15 ∷ refused (line 2) 12 15 ∷ refused (line 0) 11 4
+    ∷ refused (line 1) 13 4 ∷ refused (line 1) 8 4 ∷ []) ∷ []
+
+pub lines_unmade_agree : Agree lines_unmade
+unfolding fresh_on step_on line_on failed_on resend_on layout decoded well_laid word put_word put_words failure_answer failure_line rounds round ones ones_in in_transit
+lines_unmade_agree = refl

@@ -49,7 +49,7 @@ pub static CALLS: &[Sort] = &[
     Sort { name: "checkpoint", lent: &[TABLE, AREA], rows: &[2, 1, 2, 3, 4, 5, 9, 10] },
     Sort { name: "send", lent: &[TABLE, AREA], rows: &[2, 1, 2, 3, 4, 5, 6, 9] },
     Sort { name: "receipt", lent: &[TABLE, AREA], rows: &[2, 1, 2, 3, 4, 5, 6, 7, 8, 9] },
-    Sort { name: "line", lent: &[TABLE_READ, AREA], rows: &[2, 1, 2, 3, 4] },
+    Sort { name: "line", lent: &[TABLE_READ, AREA], rows: &[2, 1, 2, 3, 4, 15] },
     Sort { name: "failed", lent: &[TABLE_READ, AREA], rows: &[2, 1, 2, 3, 4, 11] },
     Sort { name: "grounds", lent: &[TABLE_READ, AREA], rows: &[2, 1, 2, 3, 4, 11] },
     Sort { name: "resend", lent: &[TABLE_READ, AREA, POSITIONS], rows: &[2, 1, 2, 3, 12, 13] },

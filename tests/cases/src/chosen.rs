@@ -1,5 +1,5 @@
-//! One call of each kind, the worked controller, and tables that no run makes, chosen for the rows that calls on them
-//! meet.
+//! One call of each kind, the worked controller, and tables, most of which no run makes, chosen for the rows that calls on
+//! them meet and for what they answer.
 use crate::table::{
     checkpoint, forced, from_records, receipt, section, send, words_of_records, Record, COUNT, WIDTH,
 };
@@ -26,6 +26,18 @@ pub const WORKED: [Call; 7] = [
     Call::Send { p: 1, q: 2 },
     Call::Receipt { p: 2, q: 1, k: 2 },
     Call::Receipt { p: 2, q: 1, k: 1 },
+];
+
+/// The grounds of its failure lines for masks 0, 1, ..: document 02's slip 7.
+pub const WORKED_GROUNDS: [[u32; 6]; 8] = [
+    [0, 0, 0, 0, 0, 0],
+    [1, 0, 2, 3, 2, 2], // P5: process 1 lost (0, 1), then process 2 (1, 2)
+    [0, 0, 1, 0, 2, 2],
+    [1, 0, 1, 0, 2, 2],
+    [0, 0, 0, 0, 1, 0],
+    [1, 0, 2, 3, 1, 0],
+    [0, 0, 1, 0, 1, 0],
+    [1, 0, 1, 0, 1, 0],
 ];
 
 /// n = 2, E = 4: the first count is 5, and the next section's heading, with the kind behind it, would pass for the fifth
@@ -64,5 +76,150 @@ pub fn crossed() -> [Vec<Record>; 3] {
         vec![send(1, 1, 0), send(2, 2, 0), send(1, 3, 0), receipt(1, 1, 0)],
         vec![receipt(0, 3, 0), receipt(0, 2, 0), send(2, 1, 0), receipt(0, 3, 0)],
         vec![receipt(0, 1, 0), receipt(1, 1, 0)],
+    ]
+}
+
+/// A table and what is answered on it where 0, 1, .. is asked for.
+pub struct Answered {
+    pub table: Vec<u8>,
+    pub stated: Vec<Vec<u32>>,
+}
+
+impl Answered {
+    fn on<const N: usize, const WORDS: usize, const ASKED: usize>(
+        e: u32,
+        sections: [&[Record]; N],
+        stated: [[u32; WORDS]; ASKED],
+    ) -> Answered {
+        let table = from_records(e, &sections.map(|section| section.to_vec()));
+        Answered { table, stated: stated.map(|words| words.to_vec()).to_vec() }
+    }
+}
+
+/// E = 6: tables with their numbered lines, of which no further one is answered.
+pub fn lined() -> [Answered; 7] {
+    [
+        // The numbers fall: 5, then 2, which is the process's number. The first of 2 or more is the 5 still.
+        Answered::on(6, [&[checkpoint(5), forced(2)]], [[0], [1], [1], [1], [1], [1]]),
+        // They rise and fall behind other records. The largest number counts, wherever it stands.
+        Answered::on(
+            6,
+            [
+                &[send(1, 1, 0), checkpoint(1), forced(4), checkpoint(0)],
+                &[receipt(0, 1, 0), forced(3), receipt(0, 1, 3), checkpoint(3), checkpoint(6), checkpoint(2)],
+            ],
+            [[0, 0], [2, 2], [3, 2], [3, 2], [3, 5]],
+        ),
+        // A checkpoint numbered 0 has the number of the initial one, which comes first.
+        Answered::on(6, [&[checkpoint(0)], &[forced(0), checkpoint(1)]], [[0, 0]]),
+        // Numbers are skipped.
+        Answered::on(6, [&[checkpoint(3)], &[send(0, 1, 0), forced(7)]], [[0, 0], [1, 2], [1, 2], [1, 2]]),
+        // What a process has sent and received is no saved state.
+        Answered::on(6, [&[checkpoint(1)], &[send(0, 1, 0), receipt(0, 1, 0)]], [[0, 0]]),
+        // Process 1 has saved with 1 at most. The last has saved with 18, which is n × E, and has the number 1 now.
+        Answered::on(
+            6,
+            [&[forced(2)], &[checkpoint(0), checkpoint(1)], &[checkpoint(18), checkpoint(1)]],
+            [[0, 0, 0], [1, 2, 1]],
+        ),
+        // The first checkpoint has the largest number that there may be.
+        Answered::on(6, [&[checkpoint(6), forced(5)]], [[0], [1], [1], [1], [1], [1], [1]]),
+    ]
+}
+
+/// E = 4: tables with the grounds of their failure lines.
+pub fn grounded_of_two() -> [Answered; 5] {
+    [
+        // Process 1's receipt is its last record: its place is the count, the next position that it might have had.
+        Answered::on(
+            4,
+            [&[send(1, 1, 0)], &[receipt(0, 1, 0)]],
+            [[0, 0, 0, 0], [1, 0, 2, 1], [0, 0, 1, 0], [1, 0, 1, 0]],
+        ),
+        // It has saved behind the receipt. Where it failed too, it is at 0, which isn't its last checkpoint.
+        Answered::on(
+            4,
+            [&[send(1, 1, 0)], &[receipt(0, 1, 0), checkpoint(1)]],
+            [[0, 0, 0, 0], [1, 0, 2, 1], [0, 0, 1, 0], [1, 0, 2, 1]],
+        ),
+        // The first receipt is of a message that stays sent. The second counts, not the third, of the message sent before.
+        Answered::on(
+            4,
+            [
+                &[send(1, 1, 0), checkpoint(1), send(1, 2, 1), send(1, 3, 1)],
+                &[receipt(0, 1, 0), receipt(0, 3, 0), receipt(0, 2, 0), forced(3)],
+            ],
+            [[0, 0, 0, 0], [1, 0, 2, 2], [0, 0, 1, 0], [1, 0, 2, 2]],
+        ),
+        // A receipt behind the last checkpoint of a failed process has no say.
+        Answered::on(
+            4,
+            [&[send(1, 1, 0)], &[checkpoint(1), receipt(0, 1, 0)]],
+            [[0, 0, 0, 0], [1, 0, 2, 2], [0, 0, 1, 0], [1, 0, 1, 0]],
+        ),
+        // Each received before it sent what the other received: two receipts that wait for each other.
+        Answered::on(
+            4,
+            [
+                &[receipt(1, 1, 0), checkpoint(1), send(1, 1, 1)],
+                &[receipt(0, 1, 0), checkpoint(1), send(0, 1, 1)],
+            ],
+            [[0, 0, 0, 0], [2, 1, 2, 1], [2, 1, 2, 1], [2, 1, 2, 1]],
+        ),
+    ]
+}
+
+/// E = 4: the same for tables that no run makes, on two of which nobody needs to fail for a process to be moved.
+pub fn grounded_astray() -> [Answered; 4] {
+    [
+        // Two receipts of messages that aren't there: the first by place counts, though its number is higher.
+        Answered::on(
+            4,
+            [&[checkpoint(1), receipt(1, 4, 0), receipt(1, 1, 0)], &[]],
+            [[2, 2, 0, 0], [1, 0, 0, 0], [2, 2, 1, 0], [1, 0, 1, 0]],
+        ),
+        // Process 1 has the same message twice, at 1 and 3. It is sent behind the last checkpoint of process 0.
+        Answered::on(
+            4,
+            [
+                &[checkpoint(2), send(1, 1, 2)],
+                &[receipt(0, 1, 0), checkpoint(1), receipt(0, 1, 0), checkpoint(0)],
+            ],
+            [[0, 0, 0, 0], [1, 0, 2, 1], [0, 0, 1, 0], [1, 0, 2, 1]],
+        ),
+        // Process 1 has (0, 1), which went to 2 and stays sent, then (0, 2), which was never sent; process 2 has (0, 1).
+        Answered::on(
+            4,
+            [&[send(2, 1, 0)], &[receipt(0, 1, 0), receipt(0, 2, 0)], &[receipt(0, 1, 0)]],
+            [
+                [0, 0, 2, 1, 0, 0],
+                [1, 0, 2, 1, 2, 1],
+                [0, 0, 1, 0, 0, 0],
+                [1, 0, 1, 0, 2, 1],
+                [0, 0, 2, 1, 1, 0],
+                [1, 0, 2, 1, 1, 0],
+                [0, 0, 1, 0, 1, 0],
+                [1, 0, 1, 0, 1, 0],
+            ],
+        ),
+        // Process 2 has (1, 1) twice, behind two of its checkpoints; where process 0 fails, process 1 loses its send of it.
+        Answered::on(
+            4,
+            [
+                &[checkpoint(1), send(1, 1, 1)],
+                &[checkpoint(1), receipt(0, 1, 1), checkpoint(2), send(2, 1, 2)],
+                &[checkpoint(2), receipt(1, 1, 2), checkpoint(3), receipt(1, 1, 2)],
+            ],
+            [
+                [0, 0, 0, 0, 0, 0],
+                [1, 0, 2, 2, 2, 2],
+                [0, 0, 1, 0, 2, 2],
+                [1, 0, 2, 2, 2, 2],
+                [0, 0, 0, 0, 1, 0],
+                [1, 0, 2, 2, 2, 2],
+                [0, 0, 1, 0, 2, 2],
+                [1, 0, 2, 2, 2, 2],
+            ],
+        ),
     ]
 }

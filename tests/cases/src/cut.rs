@@ -1,11 +1,17 @@
 //! Cuts: document 01, "Lines", and the messages in transit at them, document 02's slip 1, by these documents' words.
-use crate::table::{from_words, is_send, Record, A, B, KIND, RECEIPT, SEND};
+use crate::table::{from_words, is_checkpoint, is_send, Record, A, B, KIND, RECEIPT, SEND};
 use crate::Rng;
 use std::collections::BTreeSet;
 
 /// The positions at which everything has happened.
 pub fn counts(sections: &[Vec<Record>]) -> Vec<u32> {
     sections.iter().map(|s| s.len() as u32).collect()
+}
+
+/// The number of the last line that has a saved state of each process: the smallest of their largest checkpoint numbers.
+pub fn last_line(sections: &[Vec<Record>]) -> u32 {
+    let largest = |s: &Vec<Record>| s.iter().filter(|r| is_checkpoint(r)).map(|r| r[A]).max().unwrap_or(0);
+    sections.iter().map(largest).min().unwrap_or(0)
 }
 
 /// All tuples with an element from 0 to its top at each place.

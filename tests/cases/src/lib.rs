@@ -221,6 +221,26 @@ pub fn well_laid(rng: &mut Rng, n: u32, e: u32) -> Vec<u8> {
     from_records(e, &sections)
 }
 
+/// A whole table as it is, damaged, of another length or with another n or E, each one time in four.
+pub fn perhaps_damaged(rng: &mut Rng, mut table: Vec<u8>) -> Vec<u8> {
+    let mut head = to_words(&table[..4 * HEAD]);
+    let (n, e) = (head[0], head[1]);
+    match rng.below(4) {
+        0 => damage(rng, &mut table, n, e),
+        1 => {
+            let length = rng.below(table.len() as u32 + 64) as usize;
+            table.resize(length, 0);
+        }
+        2 => {
+            let place = rng.below(2) as usize;
+            head[place] = rng.extreme(n, e);
+            table[..4 * HEAD].copy_from_slice(&from_words(&head));
+        }
+        _ => {}
+    }
+    table
+}
+
 /// Changes one to three places: a byte, or a word of the head, of a section's heading, of a record, used or not.
 pub fn damage(rng: &mut Rng, table: &mut [u8], n: u32, e: u32) {
     for _ in 0..1 + rng.below(3) {

@@ -1,8 +1,11 @@
 //! Prints crates/vectors/specs/Vectors.antt: scripts of calls with the outcomes that the reference engine gives, as
 //! definitions and theorems that hold the rules to them. With the word `text` it prints TextVectors.antt instead.
 use cases::calls::numbers;
-use cases::chosen::{count_into_next_section, crossed, full, one_free_at, WORKED};
-use cases::cut::{self, has_orphan, in_transit, listed, tuples};
+use cases::chosen::{
+    count_into_next_section, crossed, full, grounded_astray, grounded_of_two, lined, one_free_at, Answered,
+    WORKED, WORKED_GROUNDS,
+};
+use cases::cut::{self, has_orphan, in_transit, last_line, listed, tuples};
 use cases::made::altered;
 use cases::table::{
     changed, checkpoint, forced, old_table_length, receipt, record, section, send, words_of_records, Record,
@@ -404,7 +407,7 @@ fn fourth_words() -> Vec<Script> {
     let calls = [
         Call::Receipt { p: 0, q: 1, k: 1 },
         Call::Receipt { p: 1, q: 0, k: 1 },
-        Call::Line { number: 3 },
+        Call::Line { number: 2 },
         Call::Failed { mask: 2 },
     ];
     let good = [0, 1, 2].map(|word| {
@@ -682,17 +685,7 @@ fn grounds_on(table: &[u8]) -> Script {
 fn worked_grounds() -> Vec<Script> {
     let worked = grounds_on(&worked_controller().table);
     let answers: Vec<&[u32]> = worked.steps.iter().map(|step| &step.answer[..]).collect();
-    let stated: [&[u32]; 8] = [
-        &[0, 0, 0, 0, 0, 0],
-        &[1, 0, 2, 3, 2, 2],
-        &[0, 0, 1, 0, 2, 2],
-        &[1, 0, 1, 0, 2, 2],
-        &[0, 0, 0, 0, 1, 0],
-        &[1, 0, 2, 3, 1, 0],
-        &[0, 0, 1, 0, 1, 0],
-        &[1, 0, 1, 0, 1, 0],
-    ];
-    assert_eq!(answers[..8], stated);
+    assert_eq!(answers[..8], WORKED_GROUNDS);
     let fresh = Script::fresh(2, 4);
     let saved = Script::fresh(2, 4).with(&[Call::Checkpoint { p: 0 }]);
     vec![worked, grounds_on(&fresh.table), grounds_on(&saved.table)]
@@ -723,34 +716,54 @@ fn rows_of_grounds() -> Vec<Script> {
     ]
 }
 
-/// Well laid tables that no run makes, or none that drawn ones are likely to be.
+/// Well laid tables, most of them such as no run makes.
 fn tables_for_grounds() -> Vec<Vec<u8>> {
-    let small: [Vec<Vec<Record>>; 6] = [
-        // Process 1 has received (0, 1), which goes to 2 and is inside; then (0, 2), which isn't sent.
-        vec![vec![send(2, 1, 0)], vec![receipt(0, 1, 0), receipt(0, 2, 0)], vec![]],
-        // A failed process 0 has no checkpoint record, so that its receipts have no say.
-        vec![vec![receipt(1, 1, 0), receipt(1, 2, 0)], vec![send(0, 1, 0), send(0, 2, 0)]],
-        // A failed process 0 is at 2: of its messages process 1 has received one that is inside and one that isn't.
-        vec![
-            vec![send(1, 1, 0), checkpoint(1), send(1, 2, 1)],
-            vec![receipt(0, 1, 0), receipt(0, 2, 0), checkpoint(1)],
-        ],
-        // The later message comes first, and the other one behind process 1's last checkpoint.
-        vec![
-            vec![checkpoint(1), send(1, 1, 1), send(1, 2, 1)],
-            vec![checkpoint(1), receipt(0, 2, 0), checkpoint(2), receipt(0, 1, 0)],
-        ],
-        // Process 2's receipt is of a send that another process's fall takes back.
-        vec![
-            vec![checkpoint(1), send(1, 1, 1)],
-            vec![checkpoint(1), receipt(0, 1, 1), checkpoint(2), send(2, 1, 2)],
-            vec![checkpoint(2), receipt(1, 1, 2), checkpoint(3), receipt(1, 1, 2)],
-        ],
-        crossed().to_vec(),
-    ];
-    let mut tables: Vec<_> = small.iter().map(|sections| from_records(4, sections)).collect();
-    tables.extend([from_records(4, &full()), fall().table]);
-    tables
+    let chosen = grounded_of_two().into_iter().chain(grounded_astray());
+    let others = [from_records(4, &crossed()), from_records(4, &full()), fall().table];
+    chosen.map(|grounded| grounded.table).chain(others).collect()
+}
+
+/// The lines around the last one that has a saved state of each process, and these in areas that are too short or too long.
+fn lines_around(table: &[u8]) -> Script {
+    let (mut script, last) = (Script::on(table), last_line(&records(table)));
+    let exact = 4 * script.n() as usize;
+    for number in last.saturating_sub(1)..=last + 2 {
+        assert_eq!(script.exact(Call::Line { number }), if number <= last { 0 } else { 15 });
+    }
+    for (number, length) in [(last, exact - 1), (last + 1, exact + 1), (last + 1, exact - 4)] {
+        assert_eq!(script.call(Call::Line { number }, length), 4);
+    }
+    script
+}
+
+/// Every line that is answered, then some that are refused.
+fn lines_of(table: &[u8], stated: &[Vec<u32>]) -> Script {
+    let mut script = Script::on(table);
+    for (number, positions) in (0..).zip(stated) {
+        script.exact(Call::Line { number });
+        assert_eq!(script.steps.last().unwrap().answer, *positions);
+    }
+    for number in [stated.len() as u32, 1 << 31, MAX] {
+        assert_eq!(script.exact(Call::Line { number }), 15);
+    }
+    script
+}
+
+/// Document 02, slip 8, on tables of calls: the worked controller's lines, a fresh table's, and line 1 before and after
+/// each process has saved, where one after the other is the last that lacks it.
+fn lines_of_runs() -> Vec<Script> {
+    let worked = lines_of(&worked_controller().table, &[vec![0, 0, 0], vec![1, 2, 1]]);
+    let fresh = Script::fresh(2, 4).table;
+    let saved = (0..3).map(|last| {
+        let mut script = Script::fresh(3, 2);
+        for p in [1, 2, 3].map(|after| (last + after) % 3) {
+            assert_eq!(script.exact(Call::Line { number: 1 }), 15);
+            script.exact(Call::Checkpoint { p });
+        }
+        assert_eq!(script.exact(Call::Line { number: 1 }), 0);
+        script
+    });
+    [worked, lines_of(&fresh, &[vec![0, 0]]), lines_around(&fresh)].into_iter().chain(saved).collect()
 }
 
 /// Document 02, slip 2: failed processes at their counts, on a fresh table and after a checkpoint.
@@ -829,6 +842,22 @@ fn rules() -> String {
     );
     file.group("grounds_made", "Grounds on the tables that the runs left.", all(&made));
     file.group("grounds_unmade", "Grounds on the well laid tables that no run makes.", all(&unmade));
+    let saved = "Numbered lines, and 15 where a process has no saved state: of the worked controller, a fresh table, and as processes save.";
+    file.group("lines_saved", saved, lines_of_runs());
+    let fallen = "Numbered lines where numbers fall, are skipped, or are 0.";
+    file.group(
+        "lines_fallen",
+        fallen,
+        lined().iter().map(|Answered { table, stated }| lines_of(table, stated)).collect(),
+    );
+    let around = |tables: &[Vec<u8>]| tables.iter().map(|table| lines_around(table)).collect();
+    file.group(
+        "lines_made",
+        "The last numbered lines of the tables that the runs left, and 4 before 15.",
+        around(&made),
+    );
+    let last = "The last numbered lines of the well laid tables that no run makes, and 4 before 15.";
+    file.group("lines_unmade", last, around(&unmade));
     assert_eq!(file.met, numbers(), "the numbers that are met");
     file.text
 }

@@ -207,7 +207,7 @@ pub fn text() -> String {
     let calls: [&[u8]; 6] = [
         b"fresh,2,4,\r\ncheckpoint,0,,\r\nsend,0,1,\r\nreceipt,1,0,1\r\nline,1,,\r\nfailed,1,,\r\n",
         b"fresh,2,2,\r\ncheckpoint,2,,\r\nsend,0,0,\r\nreceipt,0,1,1\r\nfailed,4,,\r\nline,0,,",
-        b"fresh,2,2,\r\ncheckpoint,0,,\r\nsend,0,1,\r\ncheckpoint,0,,\r\nsend,1,0,\r\nreceipt,1,0,1\r\nfailed,3,,",
+        b"fresh,2,2,\r\ncheckpoint,0,,\r\nsend,0,1,\r\ncheckpoint,0,,\r\nsend,1,0,\r\nreceipt,1,0,1\r\nfailed,3,,\r\nline,1,,",
         b"fresh,2,3,\r\nsend,0,1,\r\ncheckpoint,0,,\r\nreceipt,1,0,1\r\nreceipt,1,0,1\r\nfresh,2,3,\r\nline,1,,",
         b"fresh,3,3,\r\nsend,0,2,\r\ncheckpoint,0,,\r\nsend,0,2,\r\nreceipt,2,0,2\r\nreceipt,2,0,1\r\nfailed,1,,",
         b"fresh,1,2,\r\ncheckpoint,0,,\r\nfresh,9,1,\r\nfresh,1,2,\r\ncheckpoint,0,,\r\nfailed,1,,",
@@ -226,7 +226,7 @@ pub fn text() -> String {
         file.bytes,
         file.inputs
     );
-    for answer in ["0,", "5,", "6,", "7,", "8,", "9,", "11,", "99,", "1\r\n", "99\r\n"] {
+    for answer in ["0,", "5,", "6,", "7,", "8,", "9,", "11,", "15,", "99,", "1\r\n", "99\r\n"] {
         let met = String::from_utf8(file.outputs.clone()).unwrap().contains(&format!("\r\n{answer}"));
         assert!(met, "no output has {answer:?}");
     }
