@@ -42,7 +42,7 @@ int main(void) {
     told("receipt at 2 of (1, 1)", ckpt_receipt(LENT, CKPT_RECEIPT_LENGTH, 2, 1, 1), CKPT_OK, 4, 0, 0, 1, 3);
     told("line 0", ckpt_line(LENT, CKPT_LINE_LENGTH(N), 0), CKPT_OK, 3, 0, 0, 0);
     told("line 1", ckpt_line(LENT, CKPT_LINE_LENGTH(N), 1), CKPT_OK, 3, 1, 2, 1);
-    told("line 2", ckpt_line(LENT, CKPT_LINE_LENGTH(N), 2), CKPT_OK, 3, 2, 4, 3);
+    told("line 2", ckpt_line(LENT, CKPT_LINE_LENGTH(N), 2), CKPT_NO_SAVED_STATE, 0);
     told("failed 0", ckpt_failed(LENT, CKPT_FAILED_LENGTH(N), 0), CKPT_OK, 5, 2, 4, 3, 0, 0);
     told("failed 1", ckpt_failed(LENT, CKPT_FAILED_LENGTH(N), 1), CKPT_OK, 5, 1, 2, 1, 7, 3);
     told("failed 2", ckpt_failed(LENT, CKPT_FAILED_LENGTH(N), 2), CKPT_OK, 5, 2, 2, 1, 6, 2);

@@ -30,11 +30,11 @@
 extern "C" {
 #endif
 
-/* The version, as one number to compare (0.5.0 is 500) and as text. A record has four words since 0.2.0; a table that an earlier
+/* The version, as one number to compare (0.6.0 is 600) and as text. A record has four words since 0.2.0; a table that an earlier
    version stored is refused by its length. A receipt answers four words since 0.3.0; a shorter area is refused. ckpt_audit is there
-   since 0.4.0, and ckpt_grounds is there since 0.5.0. */
+   since 0.4.0, and ckpt_grounds is there since 0.5.0. A numbered line without a saved state of each process is refused since 0.6.0. */
 #define CKPT_VERSION_MAJOR 0
-#define CKPT_VERSION_MINOR 5
+#define CKPT_VERSION_MINOR 6
 #define CKPT_VERSION_PATCH 0
 #define CKPT_VERSION (CKPT_VERSION_MAJOR * 10000 + CKPT_VERSION_MINOR * 100 + CKPT_VERSION_PATCH)
 #define CKPT_VERSION_STRING CKPT_TEXT(CKPT_VERSION_MAJOR) "." CKPT_TEXT(CKPT_VERSION_MINOR) "." CKPT_TEXT(CKPT_VERSION_PATCH)
@@ -57,6 +57,7 @@ extern "C" {
 #define CKPT_BAD_POSITIONS 12u    /* the positions are not n words, or one is above its process's count of records */
 #define CKPT_AREA_TOO_SHORT 13u   /* the area is too short for the messages to send again */
 #define CKPT_BAD_SCRATCH 14u      /* the scratch is not as long as the table */
+#define CKPT_NO_SAVED_STATE 15u   /* a process has no saved state with this number or more */
 
 /* The grounds that ckpt_grounds answers. */
 #define CKPT_GROUND_STAYS 0u   /* it has not failed and stays at its count of records */
@@ -118,8 +119,11 @@ uint32_t ckpt_send(uint8_t *table, size_t table_len, uint8_t *area, size_t area_
 uint32_t ckpt_receipt(uint8_t *table, size_t table_len, uint8_t *area, size_t area_len, uint32_t p, uint32_t q, uint32_t k);
 
 /* Numbered line: the area gets a position for each process, how many of its records have happened there. It is that of its first
-   checkpoint with this number or more, else its count of records. Any number may be asked for; the table stays as it is.
-   Returns CKPT_BAD_TABLE_LENGTH, CKPT_BAD_DIMENSIONS, CKPT_NOT_WELL_LAID, CKPT_BAD_AREA_LENGTH, CKPT_OK. */
+   checkpoint with this number or more, so that the host has saved a state for each. The state when the table was fresh counts as
+   saved, at position 0 with the number 0: line 0 has it for every process and is never refused. A line that some process has no saved
+   state for is refused, and names no running state in its place. On a table that these calls made, a line is answered exactly when its
+   number is not above any process's number. Any number may be asked for; the table stays as it is.
+   Returns CKPT_BAD_TABLE_LENGTH, CKPT_BAD_DIMENSIONS, CKPT_NOT_WELL_LAID, CKPT_BAD_AREA_LENGTH, CKPT_NO_SAVED_STATE, CKPT_OK. */
 uint32_t ckpt_line(const uint8_t *table, size_t table_len, uint8_t *area, size_t area_len, uint32_t number);
 
 /* Failure line: bit p of the mask, counted from the lowest as 0, is set where process p failed. A failed process may be at 0, its

@@ -1,5 +1,5 @@
-/* The calls of document 01's listing, each of the six once, and then grounds, resend and the audit, in a program without a C library,
-   for x86-64 Linux. It brings the function that the archive asks for and its own entry. Status 0 where every answer is the documents'. */
+/* The calls of document 01's listing, each of the six once, a line that is refused, and then grounds, resend and the audit, in a
+   program without a C library, for x86-64 Linux. It brings the function that the archive asks for and its own entry. Status 0 where every answer is the documents'. */
 #include <ckpt.h>
 
 void *memset(void *to, int value, size_t length) {
@@ -33,6 +33,7 @@ static int listing(void) {
     same &= ANSWERS(ckpt_send(LENT, CKPT_SEND_LENGTH, 0, 1), 1, 1);
     same &= ANSWERS(ckpt_receipt(LENT, CKPT_RECEIPT_LENGTH, 1, 0, 1), 1, 1, 2, 2);
     same &= ANSWERS(ckpt_line(LENT, CKPT_LINE_LENGTH(N), 1), 1, 1);
+    same &= ckpt_line(LENT, CKPT_LINE_LENGTH(N), 2) == CKPT_NO_SAVED_STATE;
     same &= ANSWERS(ckpt_failed(LENT, CKPT_FAILED_LENGTH(N), 1), 1, 1, 3, 2);
     same &= ANSWERS(ckpt_grounds(LENT, CKPT_GROUNDS_LENGTH(N), 1), CKPT_GROUND_FAILED, 0, CKPT_GROUND_RECEIPT, 2);
     same &= ANSWERS(ckpt_resend(table, sizeof table, positions, sizeof positions, area, CKPT_RESEND_LENGTH(1)), 1, 0, 1, 1);

@@ -21,8 +21,8 @@
 
 /* tests/fuzz: runs a case, which makes its calls by fuzz_call; false where the engines disagree. */
 bool fuzz_case(uint64_t seed, uint64_t number);
-/* tests/fuzz: prints the tally; false where a call was never accepted, or never refused, the audit never said 0, or never 1, or a
-   ground was never met. */
+/* tests/fuzz: prints the tally; false where a call was never accepted, or never refused, no line lacked a saved state, the audit never
+   said 0, or never 1, or a ground was never met. */
 bool fuzz_tally(void);
 /* Bytes that tests/fuzz wants lent: a table, and what the call is lent besides. */
 struct bytes {
@@ -36,7 +36,8 @@ uint32_t fuzz_call(uint32_t place, const uint32_t *numbers, const struct bytes *
 #define ROOM ((size_t)1 << 20)
 /* A case takes some milliseconds. */
 #define LONGEST_CASE 60
-/* From so many seconds on, every call must have been accepted and refused, the audit have said 0 and 1, and each ground been met. */
+/* From so many seconds on, every call must have been accepted and refused, a line for want of a saved state, the audit have said 0 and
+   1, and each ground been met. */
 #define LONG_RUN 5
 
 /* In the order of CALLS in tests/cases. */
@@ -182,7 +183,7 @@ int main(int argc, char **argv) {
            seconds, seed);
     fflush(stdout);
     if (!fuzz_tally() && seconds >= LONG_RUN) {
-        fprintf(stderr, "fuzz: a call was never accepted or never refused, or a verdict or ground never given\n");
+        fprintf(stderr, "fuzz: a call was never accepted or never refused, or a verdict, a ground or number 15 never given\n");
         return 1;
     }
     return 0;

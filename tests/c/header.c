@@ -14,8 +14,8 @@
 #error "the header's macros can't be used by the preprocessor"
 #endif
 
-#if CKPT_VERSION < 500
-#error "ckpt_audit is there since 0.4.0, and ckpt_grounds since 0.5.0"
+#if CKPT_VERSION < 600 || CKPT_NO_SAVED_STATE != 15
+#error "ckpt_audit is there since 0.4.0, ckpt_grounds since 0.5.0, and lines are refused since 0.6.0"
 #endif
 
 /* OLD_LENGTH is that of a table of version 0.1.0, OLD_RECEIPT_LENGTH that of a receipt's area before 0.3.0. */
@@ -90,6 +90,7 @@ static void numbers(void) {
     SAME(CKPT_BAD_POSITIONS, 12);
     SAME(CKPT_AREA_TOO_SHORT, 13);
     SAME(CKPT_BAD_SCRATCH, 14);
+    SAME(CKPT_NO_SAVED_STATE, 15);
     SAME(CKPT_GROUND_STAYS, 0);
     SAME(CKPT_GROUND_FAILED, 1);
     SAME(CKPT_GROUND_RECEIPT, 2);
@@ -140,8 +141,7 @@ static void later_rows(void) {
     SAME(receipt(1, 0, 1), CKPT_ALREADY_RECEIVED);
     SAME(checkpoint(0), CKPT_NO_RECORDS_LEFT);
     SAME(send(1, 0), CKPT_NO_RECORDS_LEFT);
-    SAME(line(0xffffffff), CKPT_OK);
-    SAME(ckpt_word(area, 1), 2);
+    SAME(line(0xffffffff), CKPT_NO_SAVED_STATE);
     SAME(failed(1u << N), CKPT_BAD_MASK);
     SAME(failed(1), CKPT_OK);
     SAME(ckpt_word(area, N), 3);
@@ -275,6 +275,55 @@ static void audit_rows(void) {
     audited(1);
 }
 
+/* Refused with this number, a line of an area of this length leaves it as it was. */
+static void line_refused(uint32_t number, size_t area_length, uint32_t asked) {
+    memset(area, 0xee, sizeof area);
+    SAME(ckpt_line(LENT, area, area_length, asked), number);
+    for (size_t i = 0; i < sizeof area; i++) SAME(area[i], 0xee);
+}
+
+/* The line has all processes at this position, and not a byte after the last one. */
+static void lined(uint32_t asked, uint32_t position) {
+    memset(area, 0xee, sizeof area);
+    SAME(line(asked), CKPT_OK);
+    for (uint32_t p = 0; p < N; p++) SAME(ckpt_word(area, p), position);
+    SAME(area[CKPT_LINE_LENGTH(N)], 0xee);
+}
+
+/* The number at which process p has its checkpoint at this place, counted from 1. */
+static void put_number(uint32_t p, uint32_t place, uint32_t number) {
+    put_word(table, CKPT_RECORD_AT(E, p, place) + RECORD_A, number);
+    put_word(table, section_at(E, p) + HEADING_NUMBER, number);
+}
+
+/* On the table that later_rows left: processes 0 and 1 have a checkpoint numbered 1 as their first record, process 2 has nothing. Then
+   process 2 saves too, and at last the table is one of no run, in which process 2's numbers fall. */
+static void line_rows(void) {
+    size_t length = CKPT_LINE_LENGTH(N);
+    lined(0, 0);
+    line_refused(CKPT_NO_SAVED_STATE, length, 1);
+    line_refused(CKPT_NO_SAVED_STATE, length, 0x80000000);
+    line_refused(CKPT_NO_SAVED_STATE, length, 0xffffffff);
+    line_refused(CKPT_BAD_AREA_LENGTH, 0, 1);
+    line_refused(CKPT_BAD_AREA_LENGTH, length - 1, 1);
+    line_refused(CKPT_BAD_AREA_LENGTH, length + 1, 0xffffffff);
+    line_refused(CKPT_BAD_AREA_LENGTH, CKPT_FAILED_LENGTH(N), 1);
+    SAME(checkpoint(2), CKPT_OK);
+    lined(0, 0);
+    lined(1, 1);
+    line_refused(CKPT_NO_SAVED_STATE, length, 2);
+    SAME(checkpoint(2), CKPT_OK);
+    put_number(0, 1, 5);
+    put_word(table, CKPT_RECORD_AT(E, 0, 2) + RECORD_CARRIED, 5);
+    put_number(1, 1, 4);
+    put_number(2, 1, 5);
+    put_number(2, 2, 2);
+    lined(2, 1);
+    lined(3, 1); /* above the number that process 2 has now */
+    lined(4, 1);
+    line_refused(CKPT_NO_SAVED_STATE, length, 5); /* process 1 alone lacks it */
+}
+
 /* A table of no run: two receipts wait for each other. */
 static void audit_of_two_that_wait(void) {
     SAME(fresh(N, E), CKPT_OK);
@@ -375,6 +424,7 @@ int main(void) {
     carried();
     resend_rows();
     audit_rows();
+    line_rows();
     audit_of_two_that_wait();
     number_at_limit();
     no_bytes();

@@ -2,10 +2,13 @@
    ckpt_resend and ckpt_audit of the archive, wrapped by the linker. -DTOUCH is what all but ckpt_receipt do first, one of the functions
    below, with the lent block that -DTOUCHED names; without these they do what the archive's do. -DWRONG_NUMBER makes ckpt_send return
    5 where 6 is due, -DNOTHING_CARRIED makes it leave 0 as the fourth word of its record, -DPLACE_FROM_0 makes ckpt_receipt count the
-   place of the send from 0. -DGROUND_FROM_0 makes ckpt_grounds count its places from 0, -DFAILED_ALONE give every failed process the
-   ground 1, and -DEARLY_GROUNDS write the area though it refuses the mask. -DBEHIND_LIST makes ckpt_resend write the byte after the
-   last entry, and -DEARLY_COUNT the area's first word though the area is too short. -DALWAYS_MADE makes ckpt_audit say 1 of each table,
-   -DNEVER_MADE 0, -DEARLY_SCRATCH makes it write its scratch though it is refused, and -DHELD say what the scratch held before.
+   place of the send from 0. -DCOUNT_ANSWERED makes ckpt_line answer the counts of records where a process has no saved state,
+   -DBY_NUMBER refuse by the numbers in the headings, -DFRESH_REFUSED refuse line 0 where a process has no record, and
+   -DEARLY_POSITIONS write the first position though it refuses the line. -DGROUND_FROM_0 makes ckpt_grounds count its places from 0,
+   -DFAILED_ALONE give every failed process the ground 1, and -DEARLY_GROUNDS write the area though it refuses the mask. -DBEHIND_LIST
+   makes ckpt_resend write the byte after the last entry, and -DEARLY_COUNT the area's first word though the area is too short.
+   -DALWAYS_MADE makes ckpt_audit say 1 of each table, -DNEVER_MADE 0, -DEARLY_SCRATCH makes it write its scratch though it is refused,
+   and -DHELD say what the scratch held before.
    Compiled without a sanitizer, as the archive is. */
 #include <string.h>
 
@@ -71,10 +74,33 @@ static inline void lent(const char *name, const uint8_t *block, size_t length) {
 #endif
 }
 
+/* A word of the heading of process p. */
+static inline uint32_t heading_of(const uint8_t *table, size_t p, size_t word) {
+    return ckpt_word(table, section_at(ckpt_word(table, 1), p) + word);
+}
+
 uint32_t __wrap_ckpt_line(const uint8_t *table, size_t table_len, uint8_t *area, size_t area_len, uint32_t number) {
     lent("table", table, table_len);
     lent("area", area, area_len);
-    return __real_ckpt_line(table, table_len, area, area_len, number);
+    uint32_t returned = __real_ckpt_line(table, table_len, area, area_len, number);
+#ifdef COUNT_ANSWERED
+    for (size_t p = 0; returned == CKPT_NO_SAVED_STATE && p < area_len / 4; p++) put_word(area, p, heading_of(table, p, HEADING_COUNT));
+    if (returned == CKPT_NO_SAVED_STATE) return CKPT_OK;
+#endif
+#ifdef BY_NUMBER
+    for (size_t p = 0; returned == CKPT_OK && p < area_len / 4; p++) {
+        if (heading_of(table, p, HEADING_NUMBER) < number) returned = CKPT_NO_SAVED_STATE;
+    }
+#endif
+#ifdef FRESH_REFUSED
+    for (size_t p = 0; returned == CKPT_OK && number == 0 && p < area_len / 4; p++) {
+        if (heading_of(table, p, HEADING_COUNT) == 0) returned = CKPT_NO_SAVED_STATE;
+    }
+#endif
+#ifdef EARLY_POSITIONS
+    if (returned == CKPT_NO_SAVED_STATE) put_word(area, 0, 0);
+#endif
+    return returned;
 }
 
 uint32_t __wrap_ckpt_send(uint8_t *table, size_t table_len, uint8_t *area, size_t area_len, uint32_t p, uint32_t q) {
@@ -86,7 +112,7 @@ uint32_t __wrap_ckpt_send(uint8_t *table, size_t table_len, uint8_t *area, size_
 #endif
 #ifdef NOTHING_CARRIED
     if (returned == CKPT_OK) {
-        size_t e = ckpt_word(table, 1), used = ckpt_word(table, section_at(e, p) + HEADING_COUNT);
+        size_t e = ckpt_word(table, 1), used = heading_of(table, p, HEADING_COUNT);
         put_word(table, record_at(e, p, used - 1) + RECORD_CARRIED, 0);
     }
 #endif

@@ -23,13 +23,15 @@ static void checkpoint(void) { returned = ckpt_checkpoint(TABLE, area, CKPT_CHEC
 static void send(void) { returned = ckpt_send(TABLE, area, CKPT_SEND_LENGTH, 0, 1); }
 static void receipt(void) { returned = ckpt_receipt(TABLE, area, CKPT_RECEIPT_LENGTH, 1, 0, 1); }
 static void line(void) { returned = ckpt_line(TABLE, area, CKPT_LINE_LENGTH(n), 1); }
+static void refused_line(void) { returned = ckpt_line(TABLE, area, CKPT_LINE_LENGTH(n), 2); }
 static void failed(void) { returned = ckpt_failed(TABLE, area, CKPT_FAILED_LENGTH(n), 1); }
 static void grounds(void) { returned = ckpt_grounds(TABLE, area, CKPT_GROUNDS_LENGTH(n), 1); }
 static void resend(void) { returned = ckpt_resend(TABLE, positions, 4 * n, area, CKPT_RESEND_LENGTH(1)); }
 static void audit(void) { returned = ckpt_audit(TABLE, area, CKPT_AUDIT_LENGTH, scratch, CKPT_SCRATCH_LENGTH(n, e)); }
 
-/* The calls in an order in which each is accepted. The failure line takes process 1 back too, by the receipt that its ground names,
-   resend lists the one message, and the audit follows it from its send to a receipt that forced. */
+/* The calls in an order in which each is accepted. The receipt forces process 1 to save; when the others have saved too, line 1 has a
+   state of each, and line 2 is refused. The failure line takes process 1 back too, by the receipt that its ground names, resend lists
+   the one message, and the audit follows it from its send to a receipt that forced. */
 static const struct {
     const char *name;
     void (*call)(void);
@@ -39,7 +41,11 @@ static const struct {
     {"ckpt_receipt", receipt, 511}, {"ckpt_line", line, 511},             {"ckpt_failed", failed, 4095},
     {"ckpt_grounds", grounds, 4095}, {"ckpt_resend", resend, 4095},       {"ckpt_audit", audit, 1023},
 };
-enum { CALLS = sizeof calls / sizeof calls[0] };
+enum { LINE = 4, CALLS = sizeof calls / sizeof calls[0] };
+
+static void others_save(void) {
+    for (uint32_t p = 2; p < n; p++) ckpt_checkpoint(TABLE, area, CKPT_CHECKPOINT_LENGTH, p);
+}
 
 static size_t used(void (*call)(void)) {
     size_t kept = 0;
@@ -54,16 +60,26 @@ static size_t used(void (*call)(void)) {
     return sizeof stack - kept;
 }
 
+static size_t most[CALLS];
+static int wrong;
+
+/* Makes the call, which is to return this number, and counts its stack with that of the call in this place. */
+static void count(int place, void (*call)(void), uint32_t stated) {
+    size_t bytes = used(call);
+    if (bytes > most[place]) most[place] = bytes;
+    wrong |= returned != stated;
+}
+
 int main(void) {
-    size_t most[CALLS] = {0};
-    int wrong = 0;
     for (int large = 0; large < 2; large++) {
         n = large ? CKPT_MAX_PROCESSES : SMALL_N;
         e = large ? CKPT_MAX_RECORDS : SMALL_E;
         for (int i = 0; i < CALLS; i++) {
-            size_t bytes = used(calls[i].call);
-            if (bytes > most[i]) most[i] = bytes;
-            wrong |= returned != CKPT_OK;
+            if (i == LINE) {
+                others_save();
+                count(LINE, refused_line, CKPT_NO_SAVED_STATE);
+            }
+            count(i, calls[i].call, CKPT_OK);
         }
     }
     for (int i = 0; i < CALLS; i++) {
