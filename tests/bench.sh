@@ -64,7 +64,7 @@ short() {
 
 # fault WORDS..: the bench of faults.c, compiled with these words, ends with status 1
 fault() {
-    local calls=(send failed grounds resend audit)
+    local calls=(send line failed grounds resend audit)
     bench_of "$program-fault" "${calls[@]/#/-Wl,--wrap=ckpt_}" "$@" bench/faults.c || return 1
     "$program-fault" --short >"$out" 2>&1
     [ $? -eq 1 ] || {
@@ -83,12 +83,14 @@ said() {
     }
 }
 
-# The area's last byte, the table's last and the number returned are wrong in turn; of grounds a place, of small tables and of the
-# fall; of the messages to send again the positions, a byte behind the list and a long list; of the audit its table and what it
-# says, of each table and of one that no run makes. Then a step, the fall, its grounds, the list and the audit are slow; then a step
-# is slower the larger the table, the list is slow where the area is exact alone, and the audit where a message goes down the ring.
+# The area's last byte, the table's last and the number returned are wrong in turn; of a refused line the number and a position; of
+# grounds a place, of small tables and of the fall; of the messages to send again the positions, a byte behind the list and a long
+# list; of the audit its table and what it says, of each table and of one that no run makes. Then a step, lines, the fall, its grounds,
+# the list and the audit are slow; then a step is slower the larger the table, a line is slow where it is refused alone, the list where
+# the area is exact alone, and the audit where a message goes down the ring.
 faults() {
     local send='send at n = 3, E = 6: product and peer differ in' largest='at n = 16, E = 1024 takes [0-9.]+ times' last
+    local refused='line that is refused at n = 3, E = 6: product and peer differ in'
     local grounds='grounds at n = 3, E = 6: product and peer differ in'
     local resend='resend at n = 3, E = 6: product and peer differ in'
     local long='resend of thousands at n = 16, E = 1024: product and peer differ in'
@@ -98,6 +100,10 @@ faults() {
     fault -DAFTER='area[7] ^= 1' && said "with a wrong area" "$send the area, first at byte 7$" &&
         fault -DAFTER='table[table_len - 1] ^= 1' && said "with a wrong table" "$send the table, first at byte $last$" &&
         fault -DAFTER='returned = CKPT_BAD_PROCESS' && said "with a wrong number" "$send the number returned: 5 and 0$" &&
+        fault -DLINED='if (returned == CKPT_NO_SAVED_STATE) returned = CKPT_OK' &&
+        said "that answers a line without a saved state" "$refused the number returned: 0 and 15$" &&
+        fault -DLINED='if (returned == CKPT_NO_SAVED_STATE) area[3] = 0' &&
+        said "that writes a line that it refuses" "$refused the area, first at byte 3$" &&
         fault -DGROUNDED='area[7] ^= area_len == CKPT_GROUNDS_LENGTH(3)' && said "with a wrong ground's place" "$grounds the area, first at byte 7$" &&
         fault -DGROUNDED='area[7] ^= area_len == CKPT_GROUNDS_LENGTH(16)' &&
         said "with wrong grounds of the fall" "the product's grounds are not those of the fall$" &&
@@ -108,15 +114,18 @@ faults() {
         said "that changes what it audits" "$audit the table, first at byte $last$" &&
         fault -DAUDITED='area[3] ^= 1' && said "with a wrong audit" "$audit the area, first at byte 3$" &&
         fault -DAUDITED='area[3] = 1' && said "that says of every table that it is made" "$unmade the area, first at byte 3$" &&
-        fault -DCHECKS=4 -DREPEATS=3 -DREASONS=3 -DLISTS=3 -DAUDITS=3 && said "with a slow send" "send $largest" &&
+        fault -DCHECKS=4 -DLINES=3 -DREPEATS=3 -DREASONS=3 -DLISTS=3 -DAUDITS=3 && said "with a slow send" "send $largest" &&
+        said "with a slow line" "line $largest" &&
         said "with a slow fall" "failed in the fall $largest" &&
         said "with slow grounds" "grounds $largest" && said "with slow grounds of a fall" "grounds in the fall $largest" &&
         said "with a slow list" "resend $largest" &&
         said "with a slow audit" "audit $largest" &&
         fault -DCHECKS='ckpt_word(table, 1) / 64' \
+            -DLINES='ckpt_word(table, 1) == 1024 && ckpt_word(table, CKPT_RECORD_AT(1024, 15, 1) - 2) == 0 ? 3 : 0' \
             -DLISTS='ckpt_word(table, 1) == 1024 && area_len < CKPT_RESEND_MOST(16, 1024) ? 3 : 0' \
             -DAUDITS='ckpt_word(table, 1) == 1024 && ckpt_word(table, 2) == 1024 ? 3 : 0' &&
         said "that is not linear" "send takes [0-9.]+ times as long for a place" &&
+        said "with a slow refused line" "line that is refused $largest" &&
         said "with a slow exact list" "resend into an exact area $largest" &&
         said "with a slow audit of the ring" "audit of the ring $largest"
 }

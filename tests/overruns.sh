@@ -96,6 +96,22 @@ engine "a place counted from 0"
 wrapped -DPLACE_FROM_0 && finds "differ in the area" "$origin" "Receipt" "proved: +returned 0"
 told
 
+engine "the count where no state is saved"
+wrapped -DCOUNT_ANSWERED && finds "differ in the number returned" "$origin" "Line" "proved: +returned 0" "reference: returned 15"
+told
+
+engine "lines refused by the numbers in the headings"
+wrapped -DBY_NUMBER && finds "differ in the number returned" "$origin" "Line" "proved: +returned 15" "reference: returned 0"
+told
+
+engine "line 0 refused without a record"
+wrapped -DFRESH_REFUSED && finds "differ in the number returned" "$origin" "Line \{ number: 0 \}" "proved: +returned 15" "reference: returned 0"
+told
+
+engine "positions written by a refused line"
+wrapped -DEARLY_POSITIONS && finds "differ in the area" "$origin" "Line" "proved: +returned 15," "reference: returned 15,"
+told
+
 engine "a ground's place counted from 0"
 wrapped -DGROUND_FROM_0 && finds "differ in the area" "$origin" "Grounds" "proved: +returned 0"
 told

@@ -11,7 +11,9 @@ use cases::table::{
     CARRIED, CHECKPOINT, COUNT, KIND, RECEIPT, SEND,
 };
 use cases::Call::{self, Audit, Checkpoint, Line, Receipt, Send};
-use cases::{damage, from_records, from_words, records, scratch_length, table_length, to_words, well_laid};
+use cases::{
+    from_records, from_words, perhaps_damaged, records, scratch_length, table_length, to_words, well_laid,
+};
 use std::collections::HashSet;
 use std::fmt;
 
@@ -566,15 +568,19 @@ fn random_tables() {
     }
 }
 
-/// Whether something that was shown for made tables doesn't hold of this one: no numbered line has an orphan, row 10 isn't
-/// met, and no message is received twice.
+/// Whether something that was shown for made tables doesn't hold of this one: numbered lines are answered up to the smallest
+/// of the processes' numbers and none above it, none of them has an orphan, row 10 isn't met, and no message is received
+/// twice.
 fn lacks_what_made_tables_have(pair: &mut Pair, n: u32, e: u32) -> bool {
     let table = pair.table().to_vec();
     let sections = records(&table);
-    let lines = (0..=n * e).map(|number| pair.exact(Line { number }).1).collect::<Vec<_>>();
+    let lines = (0..=n * e).map(|number| pair.exact(Line { number })).collect::<Vec<_>>();
+    let smallest = sections.iter().map(|section| number_of(section)).min().unwrap();
+    let answered = |(number, line): (u32, &(u32, Vec<u32>))| (number <= smallest) == (line.0 == 0);
     let mut got = HashSet::new();
     let receipts = sections.iter().flatten().filter(|r| r[KIND] == RECEIPT);
-    lines.iter().any(|cut| has_orphan(&sections, cut))
+    !(0..).zip(&lines).all(answered)
+        || lines.iter().any(|(returned, cut)| *returned == 0 && has_orphan(&sections, cut))
         || (0..n).any(|p| pair.on_other(&table).exact(Checkpoint { p }).0 == 10)
         || !receipts.into_iter().all(|r| got.insert((r[A], r[B])))
 }
@@ -618,21 +624,8 @@ fn random_lengths_and_damage() {
         let origin = Origin { test: "damage", seed, case };
         let mut rng = origin.rng();
         let (n, e) = (1 + rng.below(16), 1 + rng.below(16));
-        let mut table = run(&mut rng, n, e, n * e);
-        match rng.below(4) {
-            0 => damage(&mut rng, &mut table, n, e),
-            1 => {
-                let length = rng.below(table.len() as u32 + 64) as usize;
-                table.resize(length, 0);
-            }
-            2 => {
-                let mut words = to_words(&table);
-                let place = rng.below(2) as usize;
-                words[place] = rng.extreme(n, e);
-                table = from_words(&words);
-            }
-            _ => {}
-        }
+        let made = run(&mut rng, n, e, n * e);
+        let table = perhaps_damaged(&mut rng, made);
         let area = cases::area_length(&mut rng, 4);
         let scratch = scratch_length(&mut rng, n, table.len());
         let (area, scratch) = (rng.bytes(area), rng.bytes(scratch));

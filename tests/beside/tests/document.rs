@@ -52,7 +52,7 @@ fn the_worked_controller() {
     let cases: [(Call, u32, &[u32]); 10] = [
         (Line { number: 0 }, 0, &[0, 0, 0]),       // P1
         (Line { number: 1 }, 0, &[1, 2, 1]),       // P2
-        (Line { number: 2 }, 0, &[2, 4, 3]),       // P3
+        (Line { number: 2 }, 15, &[]),             // P3, by document 02's slip 8
         (Failed { mask: 0 }, 0, &[2, 4, 3, 0, 0]), // P4
         (Failed { mask: 1 }, 0, &[1, 2, 1, 7, 3]), // P5
         (Failed { mask: 2 }, 0, &[2, 2, 1, 6, 2]), // P6
@@ -141,7 +141,8 @@ fn the_lengths() {
         let mut pair = Pair::new(&vec![0xEE; length], ORIGIN);
         assert_eq!(pair.call(Fresh { n, e }, &[]).0, 0);
         assert_eq!(pair.table(), from_words(&zeros));
-        assert_eq!(pair.exact(Line { number: MAX }), (0, vec![0; n as usize]));
+        assert_eq!(pair.exact(Line { number: 0 }), (0, vec![0; n as usize]));
+        assert_eq!(pair.exact(Line { number: 1 }).0, 15);
         let failed = [vec![0; n as usize], vec![1, 1]].concat();
         assert_eq!(pair.exact(Failed { mask: 1 }), (0, failed));
         for other in [length - 1, length + 1] {
@@ -322,6 +323,10 @@ fn the_first_row_met_is_returned() {
         check(&full, Failed { mask }, 20, 11);
         check(&full, Grounds { mask }, 24, 11);
     }
+    // Process 2 has saved nothing. tests/lines.rs has more of these.
+    for number in [1, 2, 12, 13, 1 << 31, MAX] {
+        check(&full, Line { number }, 12, 15);
+    }
     // The scratch has no bytes here: tests/audit.rs has other lengths.
     check(&full, Audit, 4, 14);
 
@@ -329,7 +334,7 @@ fn the_first_row_met_is_returned() {
     check(&one_free_at(11), Checkpoint { p: 0 }, 4, 0);
     check(&one_free_at(12), Send { p: 0, q: 1 }, 8, 0);
     check(&one_free_at(12), Receipt { p: 0, q: 1, k: 3 }, 16, 0);
-    check(&full, Line { number: MAX }, 12, 0);
+    check(&full, Line { number: 0 }, 12, 0);
     check(&full, Failed { mask: 7 }, 20, 0);
     check(&full, Grounds { mask: 7 }, 24, 0);
     // (1, 3) carries 2: at number 2 it takes the one record that is free, at number 1 it would force.
@@ -422,7 +427,7 @@ fn each_clause_of_well_laid() {
     // Current number and send count are those of the last and not of the largest or first.
     let falling = words_of_records(3, &[vec![checkpoint(3), forced(1)]]);
     assert_eq!(pair_of_words(&falling, ORIGIN).exact(Checkpoint { p: 0 }), (0, vec![2]));
-    assert_eq!(pair_of_words(&falling, ORIGIN).exact(Line { number: 1 }), (0, vec![1]));
+    assert_eq!(pair_of_words(&falling, ORIGIN).exact(Line { number: 2 }), (0, vec![1]));
     let largest = changed(&falling, &[(section(3, 0) + NUMBER, 3)]);
     assert_eq!(pair_of_words(&largest, ORIGIN).exact(Line { number: 1 }).0, 3);
 }

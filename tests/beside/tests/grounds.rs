@@ -3,14 +3,14 @@
 use beside::cuts::{failed, History};
 use beside::tables::{every_table, largest, ring, MAKERS};
 use beside::{pair_of_words, seed, Origin, Pair};
-use cases::chosen::{crossed, WORKED};
+use cases::chosen::{crossed, grounded_astray, grounded_of_two, Answered, WORKED, WORKED_GROUNDS};
 use cases::made::run;
 use cases::table::{
-    changed, checkpoint, forced, is_checkpoint, is_send, receipt, section, send, words_of_records, Record, A,
-    B, COUNT, KIND, RECEIPT, SEND,
+    changed, checkpoint, is_checkpoint, is_send, receipt, section, send, words_of_records, Record, A, B,
+    COUNT, KIND, RECEIPT, SEND,
 };
 use cases::Call::{self, Checkpoint, Failed, Grounds};
-use cases::{damage, from_records, from_words, table_length, to_words, well_laid};
+use cases::{from_records, from_words, perhaps_damaged, to_words, well_laid};
 use std::fmt;
 
 const ORIGIN: Origin = Origin { test: "grounds", seed: 0, case: 0 };
@@ -251,11 +251,11 @@ fn worked_controller() -> Pair {
 }
 
 /// The grounds for masks 0, 1, .. in turn; then 11 for the mask with the next bit.
-fn assert_grounds(pair: &mut Pair, stated: &[&[u32]]) {
+fn assert_grounds(pair: &mut Pair, stated: &[impl AsRef<[u32]>]) {
     let (table, history) = (pair.table().to_vec(), History::of(pair.table()));
-    for (mask, &words) in (0..).zip(stated) {
+    for (mask, words) in (0..).zip(stated) {
         let answer = compare_lowered(pair, &history, mask, &mut Tally::default());
-        assert_eq!(answer, words, "mask {mask} on {history}");
+        assert_eq!(answer, words.as_ref(), "mask {mask} on {history}");
     }
     assert_eq!(pair.exact(Grounds { mask: 1 << history.sections.len() }).0, 11);
     assert_eq!(pair.table(), table);
@@ -263,17 +263,7 @@ fn assert_grounds(pair: &mut Pair, stated: &[&[u32]]) {
 
 #[test]
 fn the_worked_controller() {
-    let stated: [&[u32]; 8] = [
-        &[0, 0, 0, 0, 0, 0],
-        &[1, 0, 2, 3, 2, 2], // P5: process 1 lost (0, 1), then process 2 (1, 2)
-        &[0, 0, 1, 0, 2, 2],
-        &[1, 0, 1, 0, 2, 2],
-        &[0, 0, 0, 0, 1, 0],
-        &[1, 0, 2, 3, 1, 0],
-        &[0, 0, 1, 0, 1, 0],
-        &[1, 0, 1, 0, 1, 0],
-    ];
-    assert_grounds(&mut worked_controller(), &stated);
+    assert_grounds(&mut worked_controller(), &WORKED_GROUNDS);
     for mask in [8, 9, 15, 1 << 16, 1 << 31, MAX] {
         assert_eq!(worked_controller().exact(Grounds { mask }).0, 11, "{mask}");
     }
@@ -294,77 +284,21 @@ fn fresh_and_just_saved() {
     }
 }
 
-/// n = 2, E = 4, for masks 0 to 3.
-fn on_two(sections: [&[Record]; 2], stated: [&[u32]; 4]) {
-    let table = from_records(4, &sections.map(|section| section.to_vec()));
-    assert_grounds(&mut Pair::new(&table, ORIGIN), &stated);
+fn assert_grounded(tables: &[Answered]) {
+    for Answered { table, stated } in tables {
+        assert_grounds(&mut Pair::new(table, ORIGIN), stated);
+    }
 }
 
 #[test]
 fn written_out_for_two_processes() {
-    // Process 1's receipt is its last record: its place is the count, the next position that it might have had.
-    on_two(
-        [&[send(1, 1, 0)], &[receipt(0, 1, 0)]],
-        [&[0, 0, 0, 0], &[1, 0, 2, 1], &[0, 0, 1, 0], &[1, 0, 1, 0]],
-    );
-    // It has saved behind the receipt. Where it failed too, it is at 0, which isn't its last checkpoint.
-    on_two(
-        [&[send(1, 1, 0)], &[receipt(0, 1, 0), checkpoint(1)]],
-        [&[0, 0, 0, 0], &[1, 0, 2, 1], &[0, 0, 1, 0], &[1, 0, 2, 1]],
-    );
-    // The first receipt is of a message that stays sent. The second counts, not the third, of the message sent before.
-    on_two(
-        [
-            &[send(1, 1, 0), checkpoint(1), send(1, 2, 1), send(1, 3, 1)],
-            &[receipt(0, 1, 0), receipt(0, 3, 0), receipt(0, 2, 0), forced(3)],
-        ],
-        [&[0, 0, 0, 0], &[1, 0, 2, 2], &[0, 0, 1, 0], &[1, 0, 2, 2]],
-    );
-    // A receipt behind the last checkpoint of a failed process has no say.
-    on_two(
-        [&[send(1, 1, 0)], &[checkpoint(1), receipt(0, 1, 0)]],
-        [&[0, 0, 0, 0], &[1, 0, 2, 2], &[0, 0, 1, 0], &[1, 0, 1, 0]],
-    );
-    // Each received before it sent what the other received: two receipts that wait for each other.
-    on_two(
-        [
-            &[receipt(1, 1, 0), checkpoint(1), send(1, 1, 1)],
-            &[receipt(0, 1, 0), checkpoint(1), send(0, 1, 1)],
-        ],
-        [&[0, 0, 0, 0], &[2, 1, 2, 1], &[2, 1, 2, 1], &[2, 1, 2, 1]],
-    );
+    assert_grounded(&grounded_of_two());
 }
 
-/// Tables that no run makes, where nobody needs to fail.
+/// Tables that no run makes, on most of which nobody needs to fail.
 #[test]
 fn written_out_for_tables_of_no_run() {
-    // Two receipts of messages that aren't there: the first by place counts, though its number is higher.
-    on_two(
-        [&[checkpoint(1), receipt(1, 4, 0), receipt(1, 1, 0)], &[]],
-        [&[2, 2, 0, 0], &[1, 0, 0, 0], &[2, 2, 1, 0], &[1, 0, 1, 0]],
-    );
-    // Process 1 has the same message twice, at 1 and 3. It is sent behind the last checkpoint of process 0.
-    on_two(
-        [
-            &[checkpoint(2), send(1, 1, 2)],
-            &[receipt(0, 1, 0), checkpoint(1), receipt(0, 1, 0), checkpoint(0)],
-        ],
-        [&[0, 0, 0, 0], &[1, 0, 2, 1], &[0, 0, 1, 0], &[1, 0, 2, 1]],
-    );
-    // n = 3, E = 4. Process 1 has (0, 1), which went to 2 and stays sent, then (0, 2), which was never sent; process 2 has
-    // (0, 1).
-    let stray = [vec![send(2, 1, 0)], vec![receipt(0, 1, 0), receipt(0, 2, 0)], vec![receipt(0, 1, 0)]];
-    let stated: [&[u32]; 8] = [
-        &[0, 0, 2, 1, 0, 0],
-        &[1, 0, 2, 1, 2, 1],
-        &[0, 0, 1, 0, 0, 0],
-        &[1, 0, 1, 0, 2, 1],
-        &[0, 0, 2, 1, 1, 0],
-        &[1, 0, 2, 1, 1, 0],
-        &[0, 0, 1, 0, 1, 0],
-        &[1, 0, 1, 0, 1, 0],
-    ];
-    assert_grounds(&mut Pair::new(&from_records(4, &stray), ORIGIN), &stated);
+    assert_grounded(&grounded_astray());
     // Process 0 has (1, 1), which went to 2, behind a receipt that is fine; its first receipt goes with process 1.
     let crossed: [&[u32]; 2] = [&[2, 4, 2, 1, 2, 1], &[1, 0, 2, 1, 2, 1]];
     let mut pair = Pair::new(&from_records(4, &self::crossed()), ORIGIN);
@@ -574,20 +508,8 @@ fn random_lengths_and_damage() {
         let origin = Origin { test: "damaged grounds", seed, case };
         let mut rng = origin.rng();
         let (n, e) = (1 + rng.below(16), 1 + rng.below(16));
-        let mut table = if rng.one_in(2) { run(&mut rng, n, e, n * e) } else { well_laid(&mut rng, n, e) };
-        match rng.below(4) {
-            0 => damage(&mut rng, &mut table, n, e),
-            1 => {
-                let length = rng.below(table_length(n, e) as u32 + 64) as usize;
-                table.resize(length, 0);
-            }
-            2 => {
-                let mut words = to_words(&table);
-                words[rng.below(2) as usize] = rng.extreme(n, e);
-                table = from_words(&words);
-            }
-            _ => {}
-        }
+        let table = if rng.one_in(2) { run(&mut rng, n, e, n * e) } else { well_laid(&mut rng, n, e) };
+        let table = perhaps_damaged(&mut rng, table);
         let call: Call = Grounds { mask: rng.mask(n) };
         let length = cases::area_length(&mut rng, call.area_length(n));
         let area = rng.bytes(length);

@@ -70,19 +70,22 @@ fn reads_scratch(call: Call, lent: &mut [&mut [u8]]) -> u32 {
 #[test]
 fn wrong_engines_are_found() {
     const LENGTH: usize = table_length(2, 2);
-    let line: Asked = (Call::Line { number: 1 }, &[&[0xEE; 8]]);
+    let line: Asked = (Call::Line { number: 0 }, &[&[0xEE; 8]]);
+    let unsaved: Asked = (Call::Line { number: 1 }, &[&[0xEE; 8]]);
     let grounds: Asked = (Call::Grounds { mask: 2 }, &[&[0xEE; 16]]);
     let unmasked: Asked = (Call::Grounds { mask: 4 }, &[&[0xEE; 16]]);
     // Resend needs the first four bytes of its area; the last one is to stay.
     let resend: Asked = (Call::Resend, &[&[0xEE; 8], &[0; 8]]);
     let audit: Asked = (Call::Audit, &[&[0xEE; 4], &[0xEF; LENGTH]]);
     let refused: Asked = (Call::Audit, &[&[0xEE; 4], &[0xEF; LENGTH - 1]]);
-    let wrong: [(Engine, Asked, &str); 23] = [
+    let wrong: [(Engine, Asked, &str); 25] = [
         (wrong_number, line, "the engines differ in the number returned\n"),
         (writes_table, line, "the engines differ in the table\n"),
         (writes_area, line, "the engines differ in the area\n"),
         (writes_behind_table, line, "bytes changed around the table\n"),
         (writes_behind_area, line, "bytes changed around the area\n"),
+        (wrong_number, unsaved, "the engines differ in the number returned\n"),
+        (writes_area, unsaved, "the engines differ in the area\n"),
         (wrong_number, grounds, "the engines differ in the number returned\n"),
         (writes_table, grounds, "the engines differ in the table\n"),
         (writes_area, grounds, "the engines differ in the area\n"),
@@ -102,7 +105,7 @@ fn wrong_engines_are_found() {
         (writes_area, refused, "the engines differ in the area\n"),
         (writes_further, refused, "the engines differ in the scratch\n"),
     ];
-    for call in [line, grounds, unmasked, resend, audit, refused] {
+    for call in [line, unsaved, grounds, unmasked, resend, audit, refused] {
         assert_eq!(failure(on_proved, call), None, "{call:?}");
     }
     // What the scratch holds after an accepted audit is left open.

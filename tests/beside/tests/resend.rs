@@ -3,7 +3,7 @@
 use beside::drawn::made;
 use beside::{seed, Origin, Pair};
 use cases::chosen::{crossed, WORKED};
-use cases::cut::{self, counts, has_orphan, in_transit, listed, tuples, Message};
+use cases::cut::{self, counts, has_orphan, in_transit, last_line, listed, tuples, Message};
 use cases::table::{receipt, send, Record, A, B, KIND, RECEIPT, SEND};
 use cases::Call::{self, Failed, Line};
 use cases::{from_records, from_words, records, well_laid, Rng};
@@ -78,7 +78,7 @@ impl Lists {
         for _ in 0..count {
             self.at(&cut::draw(rng, &tops));
             let line = match rng.below(2) {
-                0 => Line { number: rng.below(4) },
+                0 => Line { number: rng.below(last_line(&self.sections).min(3) + 1) },
                 _ => Failed { mask: rng.below(1 << n) },
             };
             let (returned, mut answer) = self.pair.exact(line);

@@ -65,7 +65,7 @@ fn the_worked_controller_with_its_lines_and_refused_calls() {
         ("receipt,2,1,1", "0,0,0,1,3,"),
         ("line,0,,", "0,0,0,0,,"),     // P1
         ("line,1,,", "0,1,2,1,,"),     // P2
-        ("line,2,,", "0,2,4,3,,"),     // P3
+        ("line,2,,", "15,,,,,"),       // P3
         ("failed,0,,", "0,2,4,3,0,0"), // P4
         ("failed,1,,", "0,1,2,1,7,3"), // P5
         ("failed,2,,", "0,2,2,1,6,2"), // P6
@@ -278,7 +278,7 @@ fn an_unreadable_line_gives_99_and_empty_fields_and_the_program_goes_on() {
     }
     let all = UNREADABLE.iter().flat_map(|line| [line, b"\r\nline,9,,\r\n" as &[u8]].concat());
     let input = [b"fresh,2,4,\r\n".to_vec(), all.collect()].concat();
-    check(&input, &[b"0,,,,\r\n".to_vec(), b"99,,,,\r\n0,0,0,,\r\n".repeat(UNREADABLE.len())].concat());
+    check(&input, &[b"0,,,,\r\n".to_vec(), b"99,,,,\r\n15,,,,\r\n".repeat(UNREADABLE.len())].concat());
 }
 
 #[test]
@@ -422,7 +422,7 @@ fn fresh_takes_eight_processes_and_256_records() {
         answers.extend(format!("0,{number},,\r\n").bytes());
     }
     input.extend(b"checkpoint,0,,\r\nline,256,,\r\nline,257,,\r\nline,4294967295,,\r\n");
-    answers.extend(b"9,,,\r\n0,256,,\r\n0,256,,\r\n0,256,,\r\n");
+    answers.extend(b"9,,,\r\n0,256,,\r\n15,,,\r\n15,,,\r\n");
     check(&input, &answers);
 }
 
@@ -452,7 +452,7 @@ fn a_later_fresh_gives_99_and_changes_nothing() {
             ("receipt,1,0,1", "0,1,1,2,2"),
             (line, "99,,,,"),
             ("line,1,,", "0,1,1,,"),
-            ("line,2,,", "0,2,2,,"),
+            ("line,2,,", "15,,,,"),
             ("failed,1,,", "0,1,1,3,2"),
             ("receipt,1,0,1", "8,,,,"),
             (line, "99,,,,"),
@@ -604,10 +604,10 @@ fn numbers_have_one_to_ten_digits_and_32_bits() {
         ("line,00000000000,,", "99,,,,"),
         ("line,0000000001,,", "0,1,1,,"),
         ("line,00000000001,,", "99,,,,"),
-        ("line,0000000002,,", "0,2,2,,"),
-        ("line,999999999,,", "0,2,2,,"),
-        ("line,1000000000,,", "0,2,2,,"),
-        ("line,4294967295,,", "0,2,2,,"),
+        ("line,0000000002,,", "15,,,,"),
+        ("line,999999999,,", "15,,,,"),
+        ("line,1000000000,,", "15,,,,"),
+        ("line,4294967295,,", "15,,,,"),
         ("line,4294967296,,", "99,,,,"),
         ("line,4294967297,,", "99,,,,"),
         ("line,9999999999,,", "99,,,,"),
@@ -636,6 +636,8 @@ fn numbers_have_one_to_ten_digits_and_32_bits() {
 fn every_number_that_the_program_can_write() {
     check_calls(&[
         ("fresh,2,2,", "0,,,,"),
+        ("line,0,,", "0,0,0,,"),
+        ("line,1,,", "15,,,,"),
         ("checkpoint,2,,", "5,,,,"),
         ("send,0,0,", "6,,,,"),
         ("send,0,2,", "6,,,,"),
@@ -648,6 +650,8 @@ fn every_number_that_the_program_can_write() {
         ("receipt,1,0,1", "0,1,1,2,2"),
         ("receipt,1,0,1", "8,,,,"),
         ("failed,4,,", "11,,,,"),
+        ("line,1,,", "0,1,1,,"),
+        ("line,2,,", "15,,,,"),
         ("fresh,2,2,", "99,,,,"),
         ("nothing", "99,,,,"),
         ("failed,0,,", "0,2,2,0,0"),
@@ -668,9 +672,14 @@ fn every_number_that_the_program_can_write() {
 fn an_answer_has_n_plus_3_fields_for_every_n() {
     for n in 1..=8 {
         let lines =
-            [format!("fresh,{n},1,"), "failed,0,,".into(), "line,1,,".into(), "checkpoint,0,,".into()];
-        let refused =
-            [format!("checkpoint,{n},,"), format!("failed,{},,", 1 << n), "nothing".into(), "".into()];
+            [format!("fresh,{n},1,"), "failed,0,,".into(), "line,0,,".into(), "checkpoint,0,,".into()];
+        let refused = [
+            format!("checkpoint,{n},,"),
+            format!("failed,{},,", 1 << n),
+            "line,2,,".into(),
+            "nothing".into(),
+            "".into(),
+        ];
         let commas = |count: usize| ",".repeat(count);
         let answers = [
             format!("0{}", commas(n + 2)),
@@ -679,10 +688,11 @@ fn an_answer_has_n_plus_3_fields_for_every_n() {
             format!("0,1{}", commas(n + 1)),
             format!("5{}", commas(n + 2)),
             format!("11{}", commas(n + 2)),
+            format!("15{}", commas(n + 2)),
             format!("99{}", commas(n + 2)),
             format!("99{}", commas(n + 2)),
         ];
-        check(&ended(&[lines, refused].concat()), &ended(&answers));
+        check(&ended(&[&lines[..], &refused].concat()), &ended(&answers));
     }
 }
 
@@ -712,7 +722,10 @@ fn numbers_up_to_four_digits_are_written_in_decimal() {
     add(String::from("failed,0,,"), &[256, 256, 256, 256, 256, 256, 256, 255, 0, 0]);
     add(String::from("failed,128,,"), &[256, 256, 256, 256, 256, 256, 256, 255, 128, 1]);
     add(String::from("failed,1,,"), &[255, 1, 1, 1, 1, 1, 1, 1, 255, 8]);
-    add(String::from("line,1000,,"), &[256, 256, 256, 241, 1, 1, 1, 1]);
+    add(String::from("line,255,,"), &[255, 1, 1, 1, 1, 1, 1, 1]);
+    // Process 0 has no such number.
+    input.push(String::from("line,1000,,"));
+    answers.push(format!("15{}", ",".repeat(10)));
     check(&ended(&input), &ended(&answers));
 }
 
@@ -839,7 +852,7 @@ fn drawn_inputs_beside_the_reference() {
     };
     println!("drawn inputs: {INPUTS} with CKPT_SEED={seed}, {bytes} bytes");
     println!("numbers returned {:?}, alone {:?}, fields {:?}", met(&lines), met(&alone), met(&fields));
-    assert_eq!(met(&lines).0, [0, 5, 6, 7, 8, 9, 11, 99]);
+    assert_eq!(met(&lines).0, [0, 5, 6, 7, 8, 9, 11, 15, 99]);
     assert_eq!(met(&alone).0, [1, 99]);
     assert_eq!(met(&fields).0, [1, 4, 5, 6, 7, 8, 9, 10, 11]);
 }
@@ -941,7 +954,7 @@ const FILE_ANSWERS: &[u8] = b"0,,,,\r\n\
     99,,,,\r\n\
     7,,,,\r\n\
     0,2,,,\r\n\
-    0,3,2,,\r\n";
+    15,,,,\r\n";
 
 #[test]
 fn every_prefix_of_a_file_is_an_input_of_its_own() {
@@ -993,7 +1006,7 @@ fn each_answer_comes_before_the_next_line_is_written() {
     running.write(b"\nli");
     running.expect(b"0,1,1,,\r\n");
     running.write(b"ne,2,,");
-    assert_output(LISTING, &running.finish().output(), b"0,2,2,,\r\n", "the last line without CR LF");
+    assert_output(LISTING, &running.finish().output(), b"15,,,,\r\n", "the last line without CR LF");
 }
 
 #[test]

@@ -1,8 +1,9 @@
 //! Document 01, "Lists of calls": two lists leave the same table exactly when each process has the same accepted calls,
-//! and the numbered lines after a list have no orphan.
+//! and after a list each numbered line is answered as long as every process has saved a state for it, at saved positions
+//! without orphans.
 use beside::{seed, Origin, Pair};
 use cases::cut::{counts, has_orphan};
-use cases::table::{FORCED, KIND};
+use cases::table::{is_checkpoint, number_of, FORCED, KIND};
 use cases::{area_length, records, remember, step, Call, Rng};
 
 /// How many lists each test draws.
@@ -180,10 +181,11 @@ fn tables_are_equal_exactly_when_the_accepted_calls_are() {
     assert!(equal > LISTS / 10 && different > LISTS / 10);
 }
 
+/// Every line up to the smallest number is answered, at saved positions alone, and no other line.
 #[test]
 fn numbered_lines_after_a_list_have_no_orphan() {
     let seed = seed();
-    let (mut lines, mut forced, mut spoiled) = (0, 0, 0u64);
+    let (mut lines, mut refused, mut forced, mut spoiled) = (0, 0, 0, 0u64);
     for case in 0..LISTS {
         let origin = Origin { test: "lines after a list", seed, case };
         let mut rng = origin.rng();
@@ -191,10 +193,18 @@ fn numbered_lines_after_a_list_have_no_orphan() {
         let mut run = Run::random(&mut rng, n, e, origin);
         let sections = records(run.pair.table());
         forced += sections.iter().flatten().filter(|r| r[KIND] == FORCED).count();
+        let smallest = sections.iter().map(|section| number_of(section)).min().unwrap();
         for number in (0..=n * e + 1).chain([1 << 31, u32::MAX]) {
             let (returned, cut) = run.pair.exact(Call::Line { number });
-            assert_eq!(returned, 0, "{origin}");
-            assert!(!has_orphan(&sections, &cut), "line {number} is {cut:?}: {origin}");
+            if number > smallest {
+                assert_eq!(returned, 15, "line {number}: {origin}");
+                refused += 1;
+                continue;
+            }
+            assert_eq!(returned, 0, "line {number}: {origin}");
+            let is_saved = |(p, &at): (usize, &u32)| at == 0 || is_checkpoint(&sections[p][at as usize - 1]);
+            let holds = cut.iter().enumerate().all(is_saved) && !has_orphan(&sections, &cut);
+            assert!(holds, "line {number} is {cut:?}: {origin}");
             lines += 1;
         }
         // The search does find orphans where there are some: every process at its count but one at 0.
@@ -202,6 +212,9 @@ fn numbered_lines_after_a_list_have_no_orphan() {
         cut[rng.below(n) as usize] = 0;
         spoiled += u64::from(has_orphan(&sections, &cut));
     }
-    println!("lines after a list: seed {seed}, {lines} lines, {forced} forced checkpoints");
+    println!(
+        "lines after a list: seed {seed}, {lines} lines and {refused} refused, {forced} forced checkpoints"
+    );
     assert!(forced > LISTS as usize / 4 && spoiled > LISTS / 10, "{forced} {spoiled}");
+    assert!(lines > 2 * LISTS && refused > LISTS, "{lines} {refused}");
 }

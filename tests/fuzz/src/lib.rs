@@ -37,13 +37,14 @@ pub extern "C" fn fuzz_case(seed: u64, case: u64) -> bool {
     catch_unwind(|| run_case(on_host, origin, mixed, &mut TALLY.lock().unwrap())).is_ok()
 }
 
-/// Prints how often each call returned each number. False where a call was never accepted, or never refused, where the
-/// audit never said 0, or never 1, or where no process got one of the grounds.
+/// Prints how often each call returned each number. False where a call was never accepted, or never refused, where no line
+/// lacked a saved state, where the audit never said 0, or never 1, or where no process got one of the grounds.
 #[no_mangle]
 pub extern "C" fn fuzz_tally() -> bool {
     let tally = TALLY.lock().unwrap();
     println!("{tally}");
     let tried = |name| tally.met(name).contains(&0) && tally.met(name).len() > 1;
     let mut answers = tally.verdicts.iter().chain(&tally.grounds);
-    CALLS.iter().all(|call| tried(call.name)) && answers.all(|&count| count > 0)
+    let unsaved = tally.count("line", 15);
+    CALLS.iter().all(|call| tried(call.name)) && answers.all(|&count| count > 0) && unsaved > 0
 }
