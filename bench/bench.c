@@ -19,7 +19,7 @@
     X(checkpoint, TABLE, AREA_OF(CKPT_CHECKPOINT_LENGTH), MESSAGE.to)                       \
     X(send, TABLE, AREA_OF(CKPT_SEND_LENGTH), MESSAGE.to, MESSAGE.from)                     \
     X(receipt, TABLE, AREA_OF(CKPT_RECEIPT_LENGTH), MESSAGE.to, MESSAGE.from, MESSAGE.send) \
-    X(line, TABLE, AREA_OF(CKPT_LINE_LENGTH(t->n)), MESSAGE.send)                           \
+    X(line, TABLE, AREA_OF(CKPT_LINE_LENGTH(t->n)), t->lines[i])                            \
     X(failed, TABLE, AREA_OF(CKPT_FAILED_LENGTH(t->n)), MASK)                               \
     X(grounds, TABLE, AREA_OF(CKPT_GROUNDS_LENGTH(t->n)), MASK)                             \
     X(resend, TABLE, POSITIONS, AREA_OF(t->list))                                           \
@@ -64,20 +64,21 @@ enum call { EACH_CALL(NUMBERED) CALLS };
 /* All tables begin a page, so that none is slower by where it lies. */
 #define PAGE_ALIGNED __attribute__((aligned(4096)))
 
-/* A message is also what the calls on a table are made with: a checkpoint at `to`, a send from `to` to `from`, a receipt at `to` of this
-   message, the line with its number. */
+/* A message is also what steps on a table are made with: a checkpoint at `to`, a send from `to` to `from`, a receipt at `to` of this
+   message. */
 struct message {
     uint32_t to, from, send;
 };
 
-/* Tables to be called on, side by side, each of `length` bytes with a message and a cut for it. The messages to send again get an area
-   of `list` bytes, which is the length for any list, unless a row says otherwise. */
+/* Tables to be called on, side by side, each of `length` bytes with a message, a line and a cut for it. The messages to send again get an
+   area of `list` bytes, which is the length for any list, unless a row says otherwise. Every call returns `returned`. */
 struct tables {
     uint8_t bytes[LONGEST];
     struct message messages[SMALL_TABLES];
+    uint32_t lines[SMALL_TABLES];
     uint8_t cuts[SMALL_TABLES][CUT];
     size_t length, list;
-    uint32_t n, e;
+    uint32_t n, e, returned;
     int count, turns;
 } PAGE_ALIGNED;
 
@@ -102,9 +103,10 @@ struct row {
     double product[MOST_RUNS], peer[MOST_RUNS], ratio[MOST_RUNS], passes[MOST_RUNS];
 };
 
-enum { SIZES = 3, FALL_ROW = SIZES * CALLS, MOVED_ROW, SEARCH_ROW, TRANSIT_ROW, EXACT_ROW, FULL_ROW, UNMADE_ROW, RING_ROW, ROWS };
+enum { SIZES = 3, UNSAVED_ROW = SIZES * CALLS, FALL_ROW = UNSAVED_ROW + SIZES };
+enum { MOVED_ROW = FALL_ROW + 1, SEARCH_ROW, TRANSIT_ROW, EXACT_ROW, FULL_ROW, UNMADE_ROW, RING_ROW, ROWS };
 static const uint32_t sizes[SIZES][2] = {{3, 6}, {8, 256}, {16, 1024}};
-static struct tables drawn_tables[SIZES], fall, search, transit, exact, unmade, ring;
+static struct tables drawn_tables[SIZES], saved_tables[SIZES], unsaved_tables[SIZES], fall, search, transit, exact, unmade, ring;
 static struct row rows[ROWS];
 
 /* The series of the growth: n is 16, and each E is twice the one before. So many tables lie side by side that all have the record
@@ -247,6 +249,49 @@ static void draw_tables(struct tables *tables, uint32_t n, uint32_t e, int count
 
 static void half_full(struct tables *tables, uint32_t n, uint32_t e, int count) {
     draw_tables(tables, n, e, count, n * e / 2, 45);
+}
+
+/* ---- lines ---- */
+
+/* The last line that each of the first so many processes of a table has a saved state for: the smallest of their numbers. */
+static uint32_t last_line(const uint8_t *bytes, uint32_t e, uint32_t processes) {
+    uint32_t last = UINT32_MAX;
+    for (uint32_t p = 0; p < processes; p++) {
+        uint32_t number = ckpt_word(bytes, section_at(e, p) + HEADING_NUMBER);
+        if (number < last) last = number;
+    }
+    return last;
+}
+
+/* Lets each process save that has not, where it has room, and asks for the last line that all have a saved state for. */
+static void save_all(struct tables *tables) {
+    uint8_t area[CKPT_CHECKPOINT_LENGTH];
+    for (int i = 0; i < tables->count; i++) {
+        uint8_t *bytes = tables->bytes + (size_t)i * tables->length;
+        for (uint32_t p = 0; p < tables->n; p++) {
+            if (ckpt_word(bytes, section_at(tables->e, p) + HEADING_NUMBER) > 0) continue;
+            peer_checkpoint(bytes, tables->length, area, sizeof area, p);
+        }
+        tables->lines[i] = last_line(bytes, tables->e, tables->n);
+    }
+}
+
+/* Makes 0 of each number that the last process saved with, which is well laid still, and asks for the last line that the others have a
+   saved state for, or for line 1 where one of them has none either. */
+static void save_none_at_last(struct tables *tables) {
+    uint32_t p = tables->n - 1;
+    tables->returned = CKPT_NO_SAVED_STATE;
+    for (int i = 0; i < tables->count; i++) {
+        uint8_t *bytes = tables->bytes + (size_t)i * tables->length;
+        uint32_t line = last_line(bytes, tables->e, p), count = ckpt_word(bytes, section_at(tables->e, p) + HEADING_COUNT);
+        put_word(bytes, section_at(tables->e, p) + HEADING_NUMBER, 0);
+        for (uint32_t r = 0; r < count; r++) {
+            size_t place = record_at(tables->e, p, r);
+            if (ckpt_word(bytes, place + RECORD_KIND) <= KIND_FORCED) put_word(bytes, place + RECORD_A, 0);
+            put_word(bytes, place + RECORD_CARRIED, 0);
+        }
+        tables->lines[i] = line > 0 ? line : 1;
+    }
 }
 
 /* ---- messages in transit ---- */
@@ -548,10 +593,10 @@ static void compare_bytes(const struct row *row, const char *what, const uint8_t
     differ(row, where);
 }
 
-/* A refused call does less, so all must be accepted. */
-static void accepted(const struct tables *tables, const struct lent *lent) {
+/* A refused call does less, so all must be accepted but those that are to be refused. */
+static void as_meant(const struct tables *tables, const struct lent *lent) {
     for (int i = 0; i < tables->count; i++) {
-        if (lent->returned[i] != CKPT_OK) end_badly("a call that is timed is refused");
+        if (lent->returned[i] != tables->returned) end_badly("a call that is timed doesn't return what is meant");
     }
 }
 
@@ -561,7 +606,7 @@ static void same_turns(const struct row *row) {
     compare_bytes(row, "the table", product_lent.tables, peer_lent.tables, count * row->tables->length);
     compare_bytes(row, "the positions", product_lent.cuts[0], peer_lent.cuts[0], sizeof product_lent.cuts);
     compare_bytes(row, "the area", product_lent.areas, peer_lent.areas, count * product_lent.area);
-    accepted(row->tables, &product_lent);
+    as_meant(row->tables, &product_lent);
 }
 
 /* Not inlined but aligned: the loop takes twice as long where it happens to lie across two lines of the cache. */
@@ -632,7 +677,7 @@ static double place_time(const struct tables *tables, enum call call) {
     double turns[MOST_TURNS];
     for (int i = 0; i < tables->turns; i++) {
         turns[i] = turn(call, tables, &product_lent);
-        accepted(tables, &product_lent);
+        as_meant(tables, &product_lent);
     }
     return median(turns, tables->turns) / (tables->n * tables->e);
 }
@@ -680,9 +725,14 @@ static void print_all(void) {
     printf("- rounds: %d runs of %d, of which the medians are given; for ratios, of the runs' ratios\n", runs, rounds);
     puts("\n## Half full tables\n");
     printf("A pass is one over the table's bytes, adding them up as words of 64 bits. Times at n = %u, E = %u are of calls on %d tables, each\n"
-           "drawn for itself. Messages to send again are those of a cut whose positions are drawn.\n\n",
+           "drawn for itself. Before a line is asked for, each process that hasn't saved does, if it has room; the line is the last that all\n"
+           "have a saved state for. Messages to send again are those of a cut whose positions are drawn.\n\n",
            sizes[0][0], sizes[0][1], SMALL_TABLES);
-    print_rows(0, FALL_ROW);
+    print_rows(0, UNSAVED_ROW);
+    puts("\n## A line that is refused\n");
+    puts("The same tables with the number 0 for all that the last process saved: it has no state for the last line that the others have one\n"
+         "for, or for line 1 where one of them has none either.\n");
+    print_rows(UNSAVED_ROW, FALL_ROW);
     printf("\n## A failure line that falls %u rounds\n\n", fallen.rounds);
     printf("Process 0 fails. The rounds take it from position %u to %u, and process 1, which hangs on it, from %u to %u. The grounds are\n"
            "the receipts that moved them, at place 3 of either.\n\n",
@@ -714,8 +764,9 @@ static void print_all(void) {
 static int over_bounds(void) {
     int over = 0;
     const struct row *worst = &rows[FALL_ROW];
-    for (const struct row *row = rows + FALL_ROW - CALLS; row < rows + ROWS; row++) {
+    for (const struct row *row = rows; row < rows + ROWS; row++) {
         double ratio = median(row->ratio, runs);
+        if (row->tables->e < CKPT_MAX_RECORDS) continue;
         if (ratio > median(worst->ratio, runs)) worst = row;
         if (ratio <= BOUND) continue;
         over = 1;
@@ -741,8 +792,17 @@ static void make_tables(void) {
             rows[size * CALLS + call].tables = &drawn_tables[size];
             rows[size * CALLS + call].call = (enum call)call;
         }
+        saved_tables[size] = drawn_tables[size];
+        save_all(&saved_tables[size]);
+        rows[size * CALLS + CALL_line].tables = &saved_tables[size];
+        unsaved_tables[size] = saved_tables[size];
+        save_none_at_last(&unsaved_tables[size]);
+        rows[UNSAVED_ROW + size] = (struct row){.tables = &unsaved_tables[size], .call = CALL_line, .of = " that is refused"};
     }
-    for (int i = 0; i < SERIES; i++) half_full(&grown[i], CKPT_MAX_PROCESSES, series[i], (int)(CKPT_MAX_RECORDS / series[i]));
+    for (int i = 0; i < SERIES; i++) {
+        half_full(&grown[i], CKPT_MAX_PROCESSES, series[i], (int)(CKPT_MAX_RECORDS / series[i]));
+        save_all(&grown[i]);
+    }
     falling(&fall);
     long_search(&search);
     crowded();

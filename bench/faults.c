@@ -1,12 +1,14 @@
-/* Engines that the bench must refuse (tests/bench.sh --faults): ckpt_send, ckpt_failed, ckpt_grounds, ckpt_resend and ckpt_audit of the
-   archive, wrapped by the linker. -DCHECKS=N makes the peer check the table N times before ckpt_send, and -DAFTER=.. is what that does
-   last. -DREPEATS=N makes the peer look N times for the line before ckpt_failed does, -DREASONS=N for the grounds before ckpt_grounds
-   does, -DLISTS=N list the messages N times before ckpt_resend does, and -DAUDITS=N audit the table N times before ckpt_audit does;
-   -DGROUNDED=.., -DLISTED=.. and -DAUDITED=.. are what these three do last. An engine that waits for the peer is slower than the peer
-   on every machine. Without these they do what the archive's do. */
+/* Engines that the bench must refuse (tests/bench.sh --faults): ckpt_send, ckpt_line, ckpt_failed, ckpt_grounds, ckpt_resend and
+   ckpt_audit of the archive, wrapped by the linker. -DCHECKS=N makes the peer check the table N times before ckpt_send, and -DAFTER=.. is
+   what that does last. -DLINES=N makes the peer look N times for the line before ckpt_line does, -DREPEATS=N for that before ckpt_failed
+   does, -DREASONS=N for the grounds before ckpt_grounds does, -DLISTS=N list the messages N times before ckpt_resend does, and
+   -DAUDITS=N audit the table N times before ckpt_audit does; -DLINED=.., -DGROUNDED=.., -DLISTED=.. and -DAUDITED=.. are what four of
+   these do last. An engine that waits for the peer is slower than the peer on every machine. Without these they do what the archive's
+   do. */
 #include "../include/ckpt.h"
 
 uint32_t __real_ckpt_send(uint8_t *table, size_t table_len, uint8_t *area, size_t area_len, uint32_t p, uint32_t q);
+uint32_t __real_ckpt_line(const uint8_t *table, size_t table_len, uint8_t *area, size_t area_len, uint32_t number);
 uint32_t __real_ckpt_failed(const uint8_t *table, size_t table_len, uint8_t *area, size_t area_len, uint32_t mask);
 uint32_t __real_ckpt_grounds(const uint8_t *table, size_t table_len, uint8_t *area, size_t area_len, uint32_t mask);
 uint32_t __real_ckpt_resend(const uint8_t *table, size_t table_len, const uint8_t *positions, size_t positions_len, uint8_t *area,
@@ -25,6 +27,12 @@ extern __typeof__(ckpt_audit) peer_audit;
 #endif
 #ifndef AFTER
 #define AFTER (void)0
+#endif
+#ifndef LINES
+#define LINES 0
+#endif
+#ifndef LINED
+#define LINED (void)0
 #endif
 #ifndef REPEATS
 #define REPEATS 0
@@ -53,6 +61,13 @@ uint32_t __wrap_ckpt_send(uint8_t *table, size_t table_len, uint8_t *area, size_
     for (int left = (int)(CHECKS); left > 0; left--) peer_line(table, table_len, area, 0, 0);
     uint32_t returned = __real_ckpt_send(table, table_len, area, area_len, p, q);
     AFTER;
+    return returned;
+}
+
+uint32_t __wrap_ckpt_line(const uint8_t *table, size_t table_len, uint8_t *area, size_t area_len, uint32_t number) {
+    for (int left = LINES; left > 0; left--) peer_line(table, table_len, area, area_len, number);
+    uint32_t returned = __real_ckpt_line(table, table_len, area, area_len, number);
+    LINED;
     return returned;
 }
 
