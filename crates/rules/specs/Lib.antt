@@ -7,11 +7,13 @@ pub mod FailureLine
 pub mod Calls
 pub mod Resend
 pub mod Grounds
+pub mod Saves
 pub mod Lists
 pub mod Audit
 pub mod Worked
 pub mod WorkedResend
 pub mod WorkedGrounds
 pub mod WorkedLines
+pub mod WorkedSaves
 pub mod WorkedAudit
 pub mod Text
