@@ -93,4 +93,4 @@ module _ (lines : Table) {t : List ℕ} (same : lines.bytes.now ≡ t) (a : List
             judged_done lines.bytes.now a lines.bytes.now (numbered_line N s)
             (met ∙ rw (eq-eqb (length a) (4 * lines.n) exact, none_lacks N s (λ p. get_or line p 0) at) refl) refl
             (w ∙ each_put a (numbered_line N s) (λ p. get_or line p 0) lines.n (sym many ∙ sym (length-map s _))
-            (λ p lt. sym (position N s p ∙ rw (each p lt))))
+            (λ p lt. sym (position (λ h. 0) refl N s p ∙ rw (each p lt))))

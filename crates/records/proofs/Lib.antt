@@ -1,11 +1,13 @@
 pub mod Histories
 pub mod Rows
 pub mod Steps
+pub mod Receipts
 pub mod Made
 pub mod Cuts
 pub mod Splits
 pub mod NumberedLines
 pub mod FailureLines
+pub mod Saves
 pub mod Masks
 pub mod Transit
 pub mod Grounds

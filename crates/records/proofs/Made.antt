@@ -1,4 +1,5 @@
--- What holds of every state that a list of calls makes: sizes, numbers that never fall, receipts with their sends, each once.
+-- What holds of every state that a list of calls makes: sizes, numbers that never fall, receipts with their sends, each once, and no
+-- checkpoint behind a receipt that carried its number or more.
 use mathlib.Core.Path.{◌≡◌, refl, sym, ◌∙◌, subst}
 use mathlib.Core.Logic.{◌≢◌, ◌⊎◌, inl, inr}
 use mathlib.Core.Bool.{Bool, true, false, cond}
@@ -15,31 +16,11 @@ use Rattle.rules.specs.Steps.{Call, checkpoint, send, receipt, forces, carries, 
 use Rattle.rules.specs.FailureLine.{sum}
 use Rattle.rules.specs.Calls.{Row, row, first, step_rows}
 use Rattle.rules.specs.Lists.{Entry, entry, check, after, run}
-use Rattle.basics.proofs.Older.{Older, older_length}
+use Rattle.basics.proofs.Older.{older_length}
 use Rattle.basics.proofs.Booleans.{Test, passes, fails, test}
-use Rattle.records.proofs.Histories.{holds_held, holds_older, carried_older, Each, each_all, Rising}
+use Rattle.records.proofs.Histories.{holds_older, Each, each_all, Rising}
+use Rattle.records.proofs.Receipts.{Source, Sourced, source_later, SavedFirst, grown_saved_first}
 use Rattle.records.proofs.Steps.{Accepted, run_keeps, after_keeps, history_fresh, each_step, grown_older, grown_length, stepped_older, carries_later}
-
--- ---- each receipt has its send, addressed to it, keeps what that carried, and comes after a checkpoint with at least this number
-
-abbrev pub Source : State → ℕ → Event → History → Type 0
-Source s p (basic m) h = Unit {0}
-Source s p (forced m) h = Unit {0}
-Source s p (sent q) h = Unit {0}
-Source s p (received q k c) h = (has_send (history s q) p k ≡ true) × (c ≡ carried (history s q) k) × (c ≤ number h)
-
-abbrev pub Sourced : State → ℕ → History → Type 0
-Sourced s p = Each (Source s p)
-
-source_later : (s f : State) → ((q : ℕ) → Older (history s q) (history f q)) → (p : ℕ) (e : Event) (h : History) → Source s p e h → Source f p e h
-source_later s f o p (basic m) h S = tt
-source_later s f o p (forced m) h S = tt
-source_later s f o p (sent q) h S = tt
-source_later s f o p (received q k c) h S = (
-  holds_older (o q) p k S.0,
-  S.1 ∙ sym (carried_older (o q) k (holds_held (history s q) p k S.0).counted),
-  S.2,
-)
 
 -- ---- sends and receipts name another process
 
@@ -116,6 +97,7 @@ pub record Sound (n E : ℕ) (s : State) : Type 0 where
   pub short : (p : ℕ) → length (history s p) ≤ E
   pub rising : (p : ℕ) → Rising (history s p)
   pub sourced : (p : ℕ) → Sourced s p (history s p)
+  pub saved_first : (p : ℕ) → Each SavedFirst (history s p)
   pub named : (p : ℕ) → Each (Name n p) (history s p)
   pub single : (p : ℕ) → Each New (history s p)
   pub bounded : (p : ℕ) → number (history s p) ≤ total s
@@ -182,6 +164,7 @@ made_step n E s p call M A =
           (grown_sourced f p h call c (carries_later n E s f p call A o)
           (λ q k e. holds_older (o q) p k (message_held n E s p call A q k e)) (each_all (Source s p) (Source f p) (source_later s f o p) h (M.sourced p)))
           (λ r ne. each_all (Source s r) (Source f r) (source_later s f o r) (history s r) (M.sourced r));
+      saved_first = each_step (λ (r : ℕ) (x : History). Each SavedFirst x) s p g lt (grown_saved_first s p h call c (M.rising p) (M.sourced p) (M.saved_first p)) (λ r ne. M.saved_first r);
       named = each_step (λ (r : ℕ) (x : History). Each (Name n r) x) s p g lt (grown_named n E s p call A h c (M.named p)) (λ r ne. M.named r);
       single = each_step (λ (r : ℕ) (x : History). Each New x) s p g lt (grown_new n E s p call A c (M.single p)) (λ r ne. M.single r);
       bounded = each_step (λ (r : ℕ) (x : History). number x ≤ total f) s p g lt
@@ -196,6 +179,7 @@ made_fresh n E =
       short = λ p. rw (history_fresh n p) zero-le;
       rising = λ p. rw (history_fresh n p) tt;
       sourced = λ p. rw (history_fresh n p) tt;
+      saved_first = λ p. rw (history_fresh n p) tt;
       named = λ p. rw (history_fresh n p) tt;
       single = λ p. rw (history_fresh n p) tt;
       bounded = λ p. rw (history_fresh n p) zero-le;

@@ -1,4 +1,4 @@
--- A cut that splits every history at one number has no orphan.
+-- In a made state a cut that splits every history at one number has no orphan.
 use mathlib.Core.Path.{◌≡◌, refl}
 use mathlib.Core.Logic.{◌⊎◌, inl, inr}
 use mathlib.Core.Bool.{true, false}
@@ -13,28 +13,15 @@ use Rattle.rules.specs.Records.{Event, basic, forced, sent, received, History, S
 use Rattle.rules.specs.Lines.{part, orphan, NoOrphan}
 use Rattle.basics.proofs.Older.{Older, same, newer, older_of, older_trans}
 use Rattle.records.proofs.Histories.{Held, carried_at, holds_held, held_holds, holds_older, send_of, SendOf, Each, each_older, Rising, rising_older}
-use Rattle.records.proofs.Made.{Sound, Source, Sourced}
+use Rattle.records.proofs.Receipts.{Source, Sourced, Less}
+use Rattle.records.proofs.Made.{Sound}
 use Rattle.records.proofs.Cuts.{upto_is_older}
 
--- a receipt carried less than N
-abbrev pub Less : ℕ → Event → History → Type 0
-Less N (basic m) h = Unit {0}
-Less N (forced m) h = Unit {0}
-Less N (sent q) h = Unit {0}
-Less N (received q k c) h = c < N
-
--- What is kept of history h splits it at N: receipts in it carried less than N, and sends behind it, if there are any, carry N or more.
+-- What is kept of history h splits it at N: receipts in it carried less than N, and the number there is N or more, or nothing is behind it.
+-- In a made state, where numbers don't fall, the sends behind it carry N or more then.
 pub record Splits (N : ℕ) (h kept : History) : Type 0 where
   pub low : Each (Less N) kept
   pub high : (N ≤ number kept) ⊎ (kept ≡ h)
-
--- all of a history whose number is below N
-pub less_below : (N : ℕ) (s : State) (p : ℕ) (h : History) → Rising h → Sourced s p h → number h < N → Each (Less N) h
-less_below N s p [] r S lt = tt
-less_below N s p (basic m ∷ h) r S lt = let a = r.0 in (tt, less_below N s p h r.1 S.1 (omega arith))
-less_below N s p (forced m ∷ h) r S lt = let a = r.0 in (tt, less_below N s p h r.1 S.1 (omega arith))
-less_below N s p (sent q ∷ h) r S lt = (tt, less_below N s p h r.1 S.1 lt)
-less_below N s p (received q k c ∷ h) r S lt = let a = S.0.2 in (omega arith, less_below N s p h r.1 S.1 lt)
 
 module _ (n E : ℕ) (s : State) (M : Sound n E s) (N : ℕ) (cut : List ℕ) (split : (p : ℕ) → Splits N (history s p) (part s cut p)) where
   -- a send that carried less than N is kept: behind the cut there is none

@@ -16,7 +16,8 @@ use Rattle.rules.specs.Records.{basic, forced, sent, received, History, State, h
 use Rattle.basics.proofs.Booleans.{Test, passes, fails, test, clash, true_or, and_left, and_right}
 use Rattle.records.proofs.Histories.{holds_held}
 use Rattle.records.proofs.Steps.{history_same, history_other, each_step}
-use Rattle.records.proofs.Made.{Sourced, Sound}
+use Rattle.records.proofs.Receipts.{Sourced}
+use Rattle.records.proofs.Made.{Sound}
 use Rattle.rules.specs.Table.{size}
 use Rattle.tables.proofs.Laid.{sends_length}
 use Rattle.replay.specs.Notes.{note_of, taken, noted, Noted}

@@ -8,7 +8,8 @@ use Rattle.rules.specs.Steps.{next_number, forces}
 use Rattle.basics.proofs.Older.{Older, Ahead, whole, behind, ahead}
 use Rattle.basics.proofs.Booleans.{clash}
 use Rattle.records.proofs.Histories.{holds_held, held_holds, carried_older, destination_older, each_older}
-use Rattle.records.proofs.Made.{Source, New}
+use Rattle.records.proofs.Receipts.{Source}
+use Rattle.records.proofs.Made.{New}
 use Rattle.runs.proofs.Rules.{Rule, settled}
 use Rattle.runs.proofs.Ways.{MadeState, sound, ruled, Reached}
 

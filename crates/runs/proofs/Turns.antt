@@ -16,7 +16,8 @@ use Rattle.rules.specs.Audit.{due, with_area, advance}
 use Rattle.basics.proofs.Older.{Older, same, Ahead, whole, behind, ahead}
 use Rattle.basics.proofs.Booleans.{Test, passes, fails, test}
 use Rattle.records.proofs.Histories.{at_older, holds_held, each_older}
-use Rattle.records.proofs.Made.{Source, Name}
+use Rattle.records.proofs.Receipts.{Source}
+use Rattle.records.proofs.Made.{Name}
 use Rattle.records.proofs.Steps.{Message, accepts_met}
 use Rattle.runs.proofs.Ways.{MadeState, sound, accepted_accepts, Reached, goes_on, acceptable}
 use Rattle.runs.proofs.Next.{Forced, next_basic, next_received, next_forced}

@@ -13,7 +13,8 @@ use Rattle.xdr.specs.Words.{word}
 use Rattle.rules.specs.Table.{heading, width, record_words, used_words, heading_words, section_words, sections_words, layout, event_at, records_at, start, section_at, sections_from, record_ok_at, records_ok, zeros_at, section_ok, sections_ok, decoded, size}
 use Rattle.basics.proofs.Older.{Older, same, newer, older_trans}
 use Rattle.records.proofs.Histories.{holds_held, sends_older, Each, each_older, rising_older}
-use Rattle.records.proofs.Made.{Source, Name, Sound, number_le}
+use Rattle.records.proofs.Receipts.{Source}
+use Rattle.records.proofs.Made.{Name, Sound, number_le}
 use Rattle.tables.proofs.Places.{At, at_word, at_left, at_right}
 use Rattle.xdr.proofs.Words.{Small, small_append, small_at, small_zeros, word_bytes, bytes_length}
 use Rattle.tables.proofs.Ranges.{InRange, product}

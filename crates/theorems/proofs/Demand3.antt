@@ -20,7 +20,7 @@ use Rattle.theorems.specs.TwoLists.{Lined, AfterList, Both, TwoLists}
 use Rattle.records.proofs.Rows.{NoneMet, none_met, first_append, first_none, judged_returned}
 use Rattle.records.proofs.Made.{Sound, made, made_after, made_fresh, never_ten}
 use Rattle.records.proofs.Cuts.{saved_le}
-use Rattle.records.proofs.NumberedLines.{first_saved, line_first, line_clean}
+use Rattle.records.proofs.NumberedLines.{in_line_saved, all_in_line, line_clean}
 use Rattle.tables.proofs.Laid.{layout_n, layout_e, layout_length, layout_ok, layout_decoded}
 use Rattle.tables.proofs.Ranges.{InRange, in_range_lem}
 use Rattle.basics.proofs.Booleans.{Test, passes, fails, test}
@@ -103,7 +103,7 @@ line_outcome t area N unmet l many =
 
 -- no position is above its process's count
 pub line_within : (N : ℕ) (s : State) → lacking N s ≡ false → (p : ℕ) → p < length s → get_or (numbered_line N s) p 0 ≤ length (history s p)
-line_within N s x p lt = saved_le (history s p) (get_or (numbered_line N s) p 0) (first_saved (line_first N s x p lt))
+line_within N s x p lt = saved_le (history s p) (get_or (numbered_line N s) p 0) (in_line_saved (all_in_line N s x p lt))
 
 module _ (n E : ℕ) (d : InRange n E) (s : State) (M : Sound n E s) where
   abbrev t : List ℕ
@@ -145,7 +145,7 @@ module _ (n E : ℕ) (d : InRange n E) (s : State) (M : Sound n E s) where
     clean = λ N area l z. let A = line_answered N area l z in rw A.positions (line_clean n E s M N A.passed);
     all_saved = λ N area l z p lt.
         let A = line_answered N area l z in
-        rw A.positions (first_saved (line_first N s A.passed p (let m = M.size in omega arith)));
+        rw A.positions (in_line_saved (all_in_line N s A.passed p (let m = M.size in omega arith)));
   }
 
 -- ---- one list, and two

@@ -17,7 +17,7 @@ use Rattle.theorems.specs.Lines.{largest, last_line, Line, WhichLines, MadeLines
 use Rattle.basics.proofs.Booleans.{Test, passes, fails, test}
 use Rattle.records.proofs.Histories.{Rising}
 use Rattle.records.proofs.Rows.{NoneMet, none_met}
-use Rattle.records.proofs.NumberedLines.{numbered_zero, line_first, first_saved, first_enough, first_before}
+use Rattle.records.proofs.NumberedLines.{numbered_zero, all_in_line, in_line_saved, in_line_enough, in_line_before}
 use Rattle.tables.proofs.WellLaid.{decoded_count}
 use Rattle.tables.proofs.Laid.{layout_number}
 use Rattle.tables.proofs.Ranges.{in_range_lem}
@@ -107,8 +107,8 @@ module _ (t a : List ℕ) (laid : first (table_rows t) ≡ 0) (exact : length a 
   line N = record {
     answered = λ le. said N ∙ rw (passed N le) refl;
     positions = λ le p lt.
-        let F = line_first N s (passed N le) p (let m = many in omega arith) in
-        record { is_saved = first_saved F; enough = first_enough F; before = first_before F };
+        let F = all_in_line N s (passed N le) p (let m = many in omega arith) in
+        record { is_saved = in_line_saved F; enough = in_line_enough F; before = in_line_before F };
     refused = λ gt. said N ∙ rw (lacks_above N s some_process ∙ lt-ltb (last_line s) N gt) refl;
   }
 
