@@ -27,6 +27,7 @@ use Rattle.tables.proofs.Ranges.{InRange, in_range_lem}
 use Rattle.runs.proofs.Ways.{sound}
 use Rattle.runs.proofs.Tables.{MadeTable, audited_table}
 use Rattle.theorems.proofs.SameCalls.{said_returned}
+use Rattle.theorems.proofs.Saves.{every_save}
 use Rattle.theorems.proofs.Demand3.{entry_said, lined, Holds, made_holds, two_lists}
 use Rattle.theorems.proofs.BilledOnce.{billed_once}
 
@@ -221,6 +222,7 @@ module _ (t : List ℕ) (C : MadeByCalls (word t 0) (word t 1) t) where
   has = record {
     made = C;
     lined = subst (λ (x : List ℕ). Lined n x (decoded t)) (sym H.is) (lined n E H.range (decoded t) held);
+    saves = every_save n E t C;
     unmet = unmet_lem;
     restarts = billed_once n E t C;
     further = λ l. calls_more n E t l C;

@@ -15,6 +15,7 @@ use Rattle.rules.specs.Lists.{Entry, outcomes_on, table_after, MadeByCalls}
 use Rattle.rules.specs.Audit.{audit_on}
 use Rattle.theorems.specs.TwoLists.{Lined}
 use Rattle.theorems.specs.BilledOnce.{Restarts}
+use Rattle.theorems.specs.Saves.{AllUsed}
 
 -- ---- 1 or 0
 
@@ -62,6 +63,8 @@ pub record Has (t : List ℕ) : Type 0 where
   pub made : MadeByCalls (word t 0) (word t 1) t
   -- every numbered line is answered or refused as the documents say, and an answered one is without orphans
   pub lined : Lined (word t 0) t (decoded t)
+  -- every checkpoint in it can be used
+  pub saves : AllUsed (decoded t)
   -- no step on it meets row 10
   pub unmet : (area : List ℕ) (p : ℕ) (call : Call) → (step_on t area p call).returned ≢ 10
   -- after a restart each pulse is billed once

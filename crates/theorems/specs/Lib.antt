@@ -4,6 +4,7 @@ pub mod SentAgain
 pub mod BilledOnce
 pub mod Places
 pub mod Fields
+pub mod Saves
 pub mod Audited
 pub mod Grounds
 pub mod Lines
