@@ -23,7 +23,7 @@ fn steps(n: u32, e: u32) -> Vec<Step> {
 }
 
 /// The tables that all runs leave, as bytes. There is no end but the records'.
-fn all_made(n: u32, e: u32) -> HashSet<Vec<u8>> {
+pub fn all_made(n: u32, e: u32) -> HashSet<Vec<u8>> {
     let steps = steps(n, e);
     let first = Table::fresh(Dimensions::checked(n, e).unwrap());
     let mut seen = HashSet::from([bytes_of(&first)]);
