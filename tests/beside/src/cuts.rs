@@ -1,7 +1,7 @@
 //! Failure lines by document 01's words, read from a table's bytes.
 use cases::cut::{self, has_orphan, tuples};
 use cases::records;
-use cases::table::{is_checkpoint, is_send, Record, A, B, KIND, RECEIPT};
+use cases::table::{is_send, Record, A, B, KIND, RECEIPT};
 use std::fmt;
 
 /// Whether bit p of the mask is set.
@@ -45,10 +45,19 @@ impl History {
         cut::counts(&self.sections)
     }
 
-    /// "A failed process may be at 0 or a checkpoint; another may also be at c."
+    /// Whether process p may be at this position where those of the mask failed.
     pub fn permits(&self, mask: u32, p: usize, position: u32) -> bool {
-        let (own, t) = (&self.sections[p], position as usize);
-        t == 0 || is_checkpoint(&own[t - 1]) || !failed(mask, p) && t == own.len()
+        cut::permits(&self.sections[p], failed(mask, p), position)
+    }
+
+    /// The first receipt of process p that is an orphan in the cut.
+    fn first_orphan(&self, cut: &[u32], p: usize) -> Option<&Received> {
+        self.received[p].iter().find(|r| r.place <= cut[p] && r.sent > cut[r.sender])
+    }
+
+    /// Whether the cut has an orphan, by a look at each receipt: quick on the largest tables too.
+    pub fn has_orphan(&self, cut: &[u32]) -> bool {
+        (0..cut.len()).any(|p| self.first_orphan(cut, p).is_some())
     }
 
     fn latest_permitted(&self, mask: u32, p: usize, top: u32) -> u32 {
@@ -73,8 +82,7 @@ impl History {
         loop {
             let before = cut.clone();
             for p in 0..cut.len() {
-                let orphan = |r: &&Received| r.place <= cut[p] && r.sent > cut[r.sender];
-                if let Some(first) = self.received[p].iter().find(orphan) {
+                if let Some(first) = self.first_orphan(&cut, p) {
                     cut[p] = self.latest_permitted(mask, p, first.place - 1);
                 }
             }

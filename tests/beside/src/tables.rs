@@ -9,6 +9,8 @@ use cases::{carry, from_records, records, remember, step, table_length, well_lai
 /// message is received, and the more processes go back together.
 pub struct Run {
     pub table: Vec<u8>,
+    /// The accepted calls after fresh.
+    pub accepted: Vec<Call>,
     known: Vec<Call>,
     recent: usize,
 }
@@ -17,7 +19,7 @@ impl Run {
     pub fn new(n: u32, e: u32, recent: usize) -> Run {
         let mut table = vec![0xEE; table_length(n, e)];
         assert_eq!(on_proved(Fresh { n, e }, &mut [&mut table]), 0);
-        Run { table, known: Vec::new(), recent }
+        Run { table, accepted: Vec::new(), known: Vec::new(), recent }
     }
 
     pub fn calls(&mut self, rng: &mut Rng, n: u32, e: u32, count: u32) {
@@ -27,16 +29,22 @@ impl Run {
             let mut area = vec![0xEE; call.area_length(n)];
             if on_proved(call, &mut [&mut self.table, &mut area]) == 0 {
                 remember(rng, &mut self.known, call, &self.table);
+                self.accepted.push(call);
             }
         }
+    }
+
+    /// So many calls that the table may be nearly empty or full.
+    pub fn random(rng: &mut Rng, n: u32, e: u32) -> Run {
+        let mut run = Run::new(n, e, rng.pick(&[2, 4, 1000]));
+        let count = rng.below(4 * n * e + 2);
+        run.calls(rng, n, e, count);
+        run
     }
 }
 
 pub fn made(rng: &mut Rng, n: u32, e: u32) -> Vec<u8> {
-    let mut run = Run::new(n, e, rng.pick(&[2, 4, 1000]));
-    let count = rng.below(4 * n * e + 2);
-    run.calls(rng, n, e, count);
-    run.table
+    Run::random(rng, n, e).table
 }
 
 /// A well laid table that no run makes, in which most receipts have their send, not long before their own place: a

@@ -4,10 +4,11 @@ use beside::cuts::{failed, History};
 use beside::tables::{every_table, largest, ring, MAKERS};
 use beside::{pair_of_words, seed, Origin, Pair};
 use cases::chosen::{crossed, grounded_astray, grounded_of_two, Answered, WORKED, WORKED_GROUNDS};
+use cases::cut::last_saved;
 use cases::made::run;
 use cases::table::{
-    changed, checkpoint, is_checkpoint, is_send, receipt, section, send, words_of_records, Record, A, B,
-    COUNT, KIND, RECEIPT, SEND,
+    changed, checkpoint, is_send, receipt, section, send, words_of_records, Record, A, B, COUNT, KIND,
+    RECEIPT, SEND,
 };
 use cases::Call::{self, Checkpoint, Failed, Grounds};
 use cases::{from_records, from_words, perhaps_damaged, to_words, well_laid};
@@ -69,7 +70,7 @@ impl<'a> At<'a> {
 
     /// The position of the last checkpoint, the initial one included.
     fn last_checkpoint(self) -> u32 {
-        self.own().iter().rposition(is_checkpoint).map_or(0, |i| i as u32 + 1)
+        last_saved(self.own())
     }
 
     /// The next position after its own that it might have had.

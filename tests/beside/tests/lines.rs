@@ -3,7 +3,7 @@
 use beside::tables::{largest, MAKERS};
 use beside::{pair_of_words, seed, Origin, Pair};
 use cases::chosen::{lined, Answered, WORKED};
-use cases::cut::{has_orphan, last_line, tuples};
+use cases::cut::{has_orphan, last_line, saved, saved_position, tuples};
 use cases::made::run;
 use cases::table::{
     changed, checkpoint, forced, is_checkpoint, number_of, section, send, words_of_records, Record, A, B,
@@ -64,17 +64,6 @@ fn is_laid(n: u32, e: u32, p: u32, words: &[u32]) -> bool {
         && heading[NUMBER] == number
         && heading[SENDS] == sends
         && unused.iter().all(|&word| word == 0)
-}
-
-/// What a process has saved, as position and number: its initial checkpoint first.
-fn saved(own: &[Record]) -> impl Iterator<Item = (u32, u32)> + '_ {
-    let recorded = (1..).zip(own).filter(|(_, r)| is_checkpoint(r)).map(|(position, r)| (position, r[A]));
-    [(0, 0)].into_iter().chain(recorded)
-}
-
-/// Where it is on line N, if it has saved a state for it.
-fn saved_position(own: &[Record], number: u32) -> Option<u32> {
-    saved(own).find(|&(_, saved)| saved >= number).map(|(position, _)| position)
 }
 
 /// A table, as a judge has read it: the row that it meets, or the used records.

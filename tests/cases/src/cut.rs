@@ -8,10 +8,32 @@ pub fn counts(sections: &[Vec<Record>]) -> Vec<u32> {
     sections.iter().map(|s| s.len() as u32).collect()
 }
 
+/// What a process has saved, as position and number: its initial checkpoint first.
+pub fn saved(own: &[Record]) -> impl Iterator<Item = (u32, u32)> + '_ {
+    let recorded = (1..).zip(own).filter(|(_, r)| is_checkpoint(r)).map(|(position, r)| (position, r[A]));
+    [(0, 0)].into_iter().chain(recorded)
+}
+
+/// The position of its first saved state with this number or more, if it has one.
+pub fn saved_position(own: &[Record], number: u32) -> Option<u32> {
+    saved(own).find(|&(_, saved)| saved >= number).map(|(position, _)| position)
+}
+
+/// The position of its last saved state.
+pub fn last_saved(own: &[Record]) -> u32 {
+    saved(own).last().map_or(0, |(position, _)| position)
+}
+
 /// The number of the last line that has a saved state of each process: the smallest of their largest checkpoint numbers.
 pub fn last_line(sections: &[Vec<Record>]) -> u32 {
-    let largest = |s: &Vec<Record>| s.iter().filter(|r| is_checkpoint(r)).map(|r| r[A]).max().unwrap_or(0);
+    let largest = |own: &Vec<Record>| saved(own).map(|(_, number)| number).max().unwrap_or(0);
     sections.iter().map(largest).min().unwrap_or(0)
+}
+
+/// "A failed process may be at 0 or a checkpoint; another may also be at c."
+pub fn permits(own: &[Record], failed: bool, position: u32) -> bool {
+    let t = position as usize;
+    t == 0 || is_checkpoint(&own[t - 1]) || !failed && t == own.len()
 }
 
 /// All tuples with an element from 0 to its top at each place.
