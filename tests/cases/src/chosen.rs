@@ -79,6 +79,21 @@ pub fn crossed() -> [Vec<Record>; 3] {
     ]
 }
 
+/// n = 2, E = 3: tables of no run with a checkpoint of no use, that of process 0, between a receipt and a send.
+pub fn idle_saves() -> [[Vec<Record>; 2]; 3] {
+    let first = [receipt(1, 1, 0), checkpoint(1), send(1, 1, 1)];
+    let second = [
+        // What process 0 has received was sent after what it sends was received. The receipt carried less than its send: what the
+        // send has would be above its own process's number.
+        [receipt(0, 1, 0), send(0, 1, 0)].to_vec(),
+        // The same, with the number that was carried, and a forced checkpoint where it is due.
+        [forced(1), receipt(0, 1, 1), send(0, 1, 1)].to_vec(),
+        // As an engine leaves it that saves after the receipt, but for what the receipt carried.
+        [send(0, 1, 0), receipt(0, 1, 0), forced(1)].to_vec(),
+    ];
+    second.map(|second| [first.to_vec(), second])
+}
+
 /// A table and what is answered on it where 0, 1, .. is asked for.
 pub struct Answered {
     pub table: Vec<u8>,

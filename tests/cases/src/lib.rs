@@ -3,6 +3,7 @@ pub mod calls;
 pub mod chosen;
 pub mod cut;
 pub mod made;
+pub mod saves;
 pub mod table;
 
 pub use calls::{on_reference, Call};
