@@ -1,11 +1,14 @@
--- Scripts: calls with the outcomes that another engine gave, to try the rules on.
-use Rattle.std.specs.Prelude.{◌≡◌, cond, List, [], ◌∷◌, ◌++◌, map, ℕ, ◌-◌, ◌*◌, eqb, length, replicate}
+-- Scripts: calls with the outcomes that another engine gave, to try the rules on; and checkpoints with what uses them.
+use Rattle.std.specs.Prelude.{◌≡◌, Bool, cond, List, [], ◌∷◌, ◌++◌, map, ℕ, ◌-◌, ◌*◌, eqb, length, replicate}
 use Rattle.xdr.specs.Words.{bytes}
 use Rattle.rules.specs.Calls.{Outcome, outcome_with, outcome, fresh_on, step_on, line_on, failed_on}
 use Rattle.rules.specs.Text.{Ask, fresh, step, line, failed}
 use Rattle.rules.specs.Grounds.{grounds_on}
 use Rattle.rules.specs.Resend.{resend_on}
 use Rattle.rules.specs.Audit.{audit_on}
+use Rattle.rules.specs.Records.{State}
+use Rattle.rules.specs.Table.{decoded}
+use Rattle.rules.specs.Saves.{cut_through, useful}
 
 -- what the rules give for a call on the table t with the area a; fresh has no area
 abbrev pub answered : List ℕ → List ℕ → Ask → Outcome
@@ -62,3 +65,24 @@ stated (script t l) = stated_on t l
 -- the rules agree with the scripts
 abbrev pub Agree : List Script → Type 0
 Agree scripts = map given scripts ≡ map stated scripts
+
+-- ---- saves
+
+-- the checkpoint at place i of process p, the cut through it, and whether some cut uses it, as another search found
+pub data Save : Type 0 where
+  save : (p : ℕ) → (i : ℕ) → (cut : List ℕ) → (used : Bool) → Save
+
+-- a table, and its checkpoints
+pub data Saves : Type 0 where
+  saves : (table : List ℕ) → List Save → Saves
+
+-- what the rules give
+abbrev pub searched : State → Save → Save
+searched s (save p i cut used) = save p i (cut_through s p i) (useful s p i)
+
+abbrev pub searched_on : Saves → Saves
+searched_on (saves t l) = saves t (map (searched (decoded t)) l)
+
+-- the rules agree with the other search
+abbrev pub AgreeSaves : List Saves → Type 0
+AgreeSaves l = map searched_on l ≡ l

@@ -1,6 +1,7 @@
 -- Vectors for the rules. Generated: `cargo run -p vectors` in tests/ prints this file. Every number, table and answer below comes from
--- the reference engine in tests/reference, which shares nothing with the definitions that are tried here.
-use Rattle.std.specs.Prelude.{refl, List, [], ◌∷◌, ◌++◌, ℕ}
+-- the reference engine in tests/reference, but the cuts of the last two groups from a search of all cuts in tests/cases; neither shares
+-- anything with the definitions that are tried here.
+use Rattle.std.specs.Prelude.{refl, true, false, List, [], ◌∷◌, ◌++◌, ℕ}
 use Rattle.std.specs.Int.Count.{ones, ones_in}
 use Rattle.xdr.specs.Words.{word, put_word, put_words, bytes}
 use Rattle.rules.specs.Table.{layout, decoded, well_laid}
@@ -12,7 +13,7 @@ use Rattle.rules.specs.Grounds.{grounds, grounds_on}
 use Rattle.rules.specs.Resend.{in_transit, resend_on}
 use Rattle.rules.specs.Lists.{check}
 use Rattle.rules.specs.Audit.{advance, sweep, sweeps, replayed, audited, audit_on}
-use Rattle.vectors.specs.Try.{Script, script, refused, accepted, grounded, resend, audit, lent, Agree}
+use Rattle.vectors.specs.Try.{Script, script, refused, accepted, grounded, resend, audit, lent, Agree, Saves, saves, save, AgreeSaves}
 
 abbrev table0 : List ℕ
 table0 = bytes (3 ∷ 6 ∷ 0 ∷ 0 ∷ 0 ∷ 0 ∷ 0 ∷ 0 ∷ 0 ∷ 0 ∷ 0 ∷ 0 ∷ 0 ∷ 0 ∷ 0 ∷ 0 ∷ 0 ∷ 0 ∷ 0 ∷ 0 ∷ 0 ∷ 0 ∷ 0 ∷ 0 ∷ 0 ∷ 0 ∷ 0 ∷ 0 ∷ 0 ∷ 0 ∷ 0 ∷ 0 ∷ 0 ∷ 0 ∷ 0 ∷ 0
@@ -2156,3 +2157,94 @@ lines_unmade = script table185 (accepted (line 0) 4 (0 ∷ []) table185 ∷ refu
 pub lines_unmade_agree : Agree lines_unmade
 unfolding fresh_on step_on line_on failed_on resend_on layout decoded well_laid word put_word put_words failure_answer failure_line rounds round ones ones_in in_transit
 lines_unmade_agree = refl
+
+abbrev table266 : List ℕ
+table266 = bytes (2 ∷ 2 ∷ 2 ∷ 1 ∷ 0 ∷ 2 ∷ 1 ∷ 0 ∷ 0 ∷ 4 ∷ 1 ∷ 1 ∷ 1 ∷ 2 ∷ 1 ∷ 1 ∷ 1 ∷ 1 ∷ 0 ∷ 0 ∷ 3 ∷ 0 ∷ 1 ∷ 1 ∷ [])
+
+abbrev table267 : List ℕ
+table267 = bytes (2 ∷ 3 ∷ 3 ∷ 2 ∷ 1 ∷ 3 ∷ 1 ∷ 1 ∷ 0 ∷ 2 ∷ 2 ∷ 0 ∷ 0 ∷ 4 ∷ 1 ∷ 1 ∷ 2 ∷ 3 ∷ 2 ∷ 1 ∷ 1 ∷ 1 ∷ 0 ∷ 0 ∷ 1 ∷ 2 ∷ 0 ∷ 0 ∷ 3 ∷ 0 ∷ 1 ∷ 2 ∷ [])
+
+abbrev table268 : List ℕ
+table268 = bytes (2 ∷ 4 ∷ 4 ∷ 1 ∷ 1 ∷ 4 ∷ 1 ∷ 1 ∷ 0 ∷ 2 ∷ 1 ∷ 0 ∷ 0 ∷ 4 ∷ 1 ∷ 2 ∷ 1 ∷ 3 ∷ 1 ∷ 1 ∷ 1 ∷ 4 ∷ 1 ∷ 3 ∷ 3 ∷ 0 ∷ 1 ∷ 0 ∷ 1 ∷ 1 ∷ 0 ∷ 0 ∷ 3 ∷ 0 ∷ 2
+    ∷ 1 ∷ 3 ∷ 0 ∷ 3 ∷ 1 ∷ [])
+
+abbrev table269 : List ℕ
+table269 = bytes (2 ∷ 4 ∷ 4 ∷ 1 ∷ 3 ∷ 3 ∷ 1 ∷ 1 ∷ 0 ∷ 3 ∷ 1 ∷ 2 ∷ 0 ∷ 1 ∷ 1 ∷ 0 ∷ 0 ∷ 3 ∷ 1 ∷ 3 ∷ 1 ∷ 4 ∷ 1 ∷ 0 ∷ 4 ∷ 0 ∷ 1 ∷ 0 ∷ 2 ∷ 1 ∷ 0 ∷ 0 ∷ 4 ∷ 0 ∷ 3
+    ∷ 1 ∷ 4 ∷ 0 ∷ 2 ∷ 0 ∷ [])
+
+abbrev table270 : List ℕ
+table270 = bytes (3 ∷ 3 ∷ 3 ∷ 1 ∷ 1 ∷ 4 ∷ 1 ∷ 1 ∷ 0 ∷ 1 ∷ 1 ∷ 0 ∷ 0 ∷ 3 ∷ 1 ∷ 1 ∷ 1 ∷ 3 ∷ 1 ∷ 1 ∷ 3 ∷ 0 ∷ 1 ∷ 0 ∷ 2 ∷ 1 ∷ 0 ∷ 0 ∷ 4 ∷ 0 ∷ 1 ∷ 1 ∷ 3 ∷ 2 ∷ 1
+    ∷ 1 ∷ 1 ∷ 0 ∷ 0 ∷ 1 ∷ 2 ∷ 0 ∷ 0 ∷ 3 ∷ 0 ∷ 1 ∷ 2 ∷ [])
+
+abbrev table271 : List ℕ
+table271 = bytes (3 ∷ 4 ∷ 4 ∷ 2 ∷ 1 ∷ 1 ∷ 1 ∷ 0 ∷ 0 ∷ 3 ∷ 2 ∷ 1 ∷ 1 ∷ 1 ∷ 2 ∷ 0 ∷ 0 ∷ 4 ∷ 2 ∷ 1 ∷ 0 ∷ 4 ∷ 1 ∷ 3 ∷ 1 ∷ 1 ∷ 0 ∷ 0 ∷ 3 ∷ 0 ∷ 1 ∷ 1 ∷ 3 ∷ 2 ∷ 2
+    ∷ 1 ∷ 3 ∷ 2 ∷ 3 ∷ 1 ∷ 4 ∷ 1 ∷ 2 ∷ 3 ∷ 0 ∷ 1 ∷ 0 ∷ 3 ∷ 0 ∷ 2 ∷ 0 ∷ 2 ∷ 1 ∷ 0 ∷ 0 ∷ 4 ∷ 1 ∷ 3 ∷ 1 ∷ [])
+
+abbrev table272 : List ℕ
+table272 = bytes (3 ∷ 4 ∷ 4 ∷ 1 ∷ 2 ∷ 3 ∷ 2 ∷ 1 ∷ 0 ∷ 1 ∷ 1 ∷ 0 ∷ 0 ∷ 3 ∷ 2 ∷ 2 ∷ 1 ∷ 4 ∷ 2 ∷ 1 ∷ 0 ∷ 4 ∷ 0 ∷ 4 ∷ 3 ∷ 2 ∷ 1 ∷ 0 ∷ 3 ∷ 0 ∷ 2 ∷ 0 ∷ 3 ∷ 2 ∷ 3
+    ∷ 0 ∷ 3 ∷ 2 ∷ 4 ∷ 0 ∷ 4 ∷ 1 ∷ 1 ∷ 3 ∷ 0 ∷ 1 ∷ 0 ∷ 4 ∷ 1 ∷ 1 ∷ 0 ∷ 2 ∷ 1 ∷ 0 ∷ 0 ∷ 4 ∷ 0 ∷ 2 ∷ 1 ∷ [])
+
+-- The checkpoints of tables that runs leave: the cut through each, and that some cut uses it.
+abbrev saves_made : List Saves
+saves_made = saves table187 (save 0 1 (1 ∷ []) true ∷ save 0 2 (2 ∷ []) true ∷ []) ∷ saves table266 (save 0 1 (1 ∷ 1 ∷ []) true ∷ save 1 1 (1 ∷ 1 ∷ []) true
+    ∷ []) ∷ saves table267 (save 0 2 (2 ∷ 2 ∷ []) true ∷ save 1 1 (2 ∷ 1 ∷ []) true ∷ save 1 2 (2 ∷ 2 ∷ []) true ∷ [])
+    ∷ saves table268 (save 0 2 (2 ∷ 2 ∷ []) true ∷ save 1 2 (2 ∷ 2 ∷ []) true ∷ []) ∷ saves table269 (save 0 3 (3 ∷ 2 ∷ []) true ∷ save 1 2 (3 ∷ 2 ∷ []) true
+    ∷ []) ∷ saves table270 (save 0 2 (2 ∷ 2 ∷ 1 ∷ []) true ∷ save 1 2 (2 ∷ 2 ∷ 1 ∷ []) true ∷ save 2 1 (2 ∷ 2 ∷ 1 ∷ []) true ∷ save 2 2 (3 ∷ 3 ∷ 2 ∷ []) true
+    ∷ []) ∷ saves table271 (save 0 1 (1 ∷ 1 ∷ 3 ∷ []) true ∷ save 0 3 (3 ∷ 4 ∷ 4 ∷ []) true ∷ save 1 1 (1 ∷ 1 ∷ 3 ∷ []) true ∷ save 2 3 (1 ∷ 1 ∷ 3 ∷ []) true
+    ∷ []) ∷ saves table272 (save 0 2 (2 ∷ 4 ∷ 3 ∷ []) true ∷ save 2 3 (2 ∷ 4 ∷ 3 ∷ []) true ∷ []) ∷ []
+
+pub saves_made_agree : AgreeSaves saves_made
+unfolding decoded word put_word put_words
+saves_made_agree = refl
+
+abbrev table273 : List ℕ
+table273 = bytes (2 ∷ 3 ∷ 3 ∷ 1 ∷ 1 ∷ 4 ∷ 1 ∷ 1 ∷ 0 ∷ 1 ∷ 1 ∷ 0 ∷ 0 ∷ 3 ∷ 1 ∷ 1 ∷ 1 ∷ 2 ∷ 0 ∷ 1 ∷ 4 ∷ 0 ∷ 1 ∷ 0 ∷ 3 ∷ 0 ∷ 1 ∷ 0 ∷ 0 ∷ 0 ∷ 0 ∷ 0 ∷ [])
+
+abbrev table274 : List ℕ
+table274 = bytes (2 ∷ 3 ∷ 3 ∷ 1 ∷ 1 ∷ 4 ∷ 1 ∷ 1 ∷ 0 ∷ 1 ∷ 1 ∷ 0 ∷ 0 ∷ 3 ∷ 1 ∷ 1 ∷ 1 ∷ 3 ∷ 1 ∷ 1 ∷ 2 ∷ 1 ∷ 0 ∷ 0 ∷ 4 ∷ 0 ∷ 1 ∷ 1 ∷ 3 ∷ 0 ∷ 1 ∷ 1 ∷ [])
+
+abbrev table275 : List ℕ
+table275 = bytes (2 ∷ 3 ∷ 3 ∷ 1 ∷ 1 ∷ 4 ∷ 1 ∷ 1 ∷ 0 ∷ 1 ∷ 1 ∷ 0 ∷ 0 ∷ 3 ∷ 1 ∷ 1 ∷ 1 ∷ 3 ∷ 1 ∷ 1 ∷ 3 ∷ 0 ∷ 1 ∷ 0 ∷ 4 ∷ 0 ∷ 1 ∷ 0 ∷ 2 ∷ 1 ∷ 0 ∷ 0 ∷ [])
+
+abbrev table276 : List ℕ
+table276 = bytes (1 ∷ 3 ∷ 3 ∷ 1 ∷ 0 ∷ 1 ∷ 0 ∷ 0 ∷ 0 ∷ 2 ∷ 3 ∷ 0 ∷ 0 ∷ 1 ∷ 1 ∷ 0 ∷ 0 ∷ [])
+
+abbrev table277 : List ℕ
+table277 = bytes (2 ∷ 2 ∷ 2 ∷ 0 ∷ 0 ∷ 2 ∷ 0 ∷ 0 ∷ 0 ∷ 4 ∷ 1 ∷ 2 ∷ 0 ∷ 1 ∷ 1 ∷ 0 ∷ 1 ∷ 1 ∷ 0 ∷ 0 ∷ 0 ∷ 0 ∷ 0 ∷ 0 ∷ [])
+
+abbrev table278 : List ℕ
+table278 = bytes (2 ∷ 3 ∷ 1 ∷ 0 ∷ 0 ∷ 2 ∷ 0 ∷ 0 ∷ 0 ∷ 0 ∷ 0 ∷ 0 ∷ 0 ∷ 0 ∷ 0 ∷ 0 ∷ 0 ∷ 2 ∷ 0 ∷ 0 ∷ 4 ∷ 0 ∷ 3 ∷ 0 ∷ 2 ∷ 0 ∷ 0 ∷ 0 ∷ 0 ∷ 0 ∷ 0 ∷ 0 ∷ [])
+
+abbrev table279 : List ℕ
+table279 = bytes (2 ∷ 4 ∷ 3 ∷ 0 ∷ 2 ∷ 3 ∷ 1 ∷ 1 ∷ 0 ∷ 3 ∷ 1 ∷ 2 ∷ 0 ∷ 2 ∷ 0 ∷ 0 ∷ 0 ∷ 0 ∷ 0 ∷ 0 ∷ 0 ∷ 0 ∷ 0 ∷ 0 ∷ 0 ∷ 0 ∷ 0 ∷ 0 ∷ 0 ∷ 0 ∷ 0 ∷ 0 ∷ 0 ∷ 0 ∷ 0
+    ∷ 0 ∷ 0 ∷ 0 ∷ 0 ∷ 0 ∷ [])
+
+abbrev table280 : List ℕ
+table280 = bytes (2 ∷ 4 ∷ 3 ∷ 0 ∷ 1 ∷ 3 ∷ 1 ∷ 1 ∷ 0 ∷ 4 ∷ 1 ∷ 4 ∷ 0 ∷ 1 ∷ 0 ∷ 0 ∷ 0 ∷ 0 ∷ 0 ∷ 0 ∷ 0 ∷ 3 ∷ 0 ∷ 1 ∷ 1 ∷ 0 ∷ 0 ∷ 0 ∷ 3 ∷ 0 ∷ 1 ∷ 0 ∷ 4 ∷ 0 ∷ 1
+    ∷ 0 ∷ 0 ∷ 0 ∷ 0 ∷ 0 ∷ [])
+
+abbrev table281 : List ℕ
+table281 = bytes (3 ∷ 3 ∷ 2 ∷ 1 ∷ 0 ∷ 1 ∷ 1 ∷ 0 ∷ 0 ∷ 4 ∷ 1 ∷ 1 ∷ 0 ∷ 0 ∷ 0 ∷ 0 ∷ 0 ∷ 3 ∷ 0 ∷ 2 ∷ 3 ∷ 2 ∷ 1 ∷ 0 ∷ 4 ∷ 2 ∷ 3 ∷ 0 ∷ 3 ∷ 0 ∷ 2 ∷ 0 ∷ 2 ∷ 0 ∷ 1
+    ∷ 3 ∷ 1 ∷ 1 ∷ 0 ∷ 4 ∷ 1 ∷ 2 ∷ 0 ∷ 0 ∷ 0 ∷ 0 ∷ 0 ∷ [])
+
+abbrev table282 : List ℕ
+table282 = bytes (3 ∷ 4 ∷ 4 ∷ 0 ∷ 3 ∷ 3 ∷ 1 ∷ 1 ∷ 0 ∷ 4 ∷ 2 ∷ 4 ∷ 0 ∷ 3 ∷ 2 ∷ 2 ∷ 0 ∷ 3 ∷ 2 ∷ 3 ∷ 0 ∷ 3 ∷ 0 ∷ 2 ∷ 1 ∷ 0 ∷ 0 ∷ 0 ∷ 3 ∷ 0 ∷ 1 ∷ 0 ∷ 3 ∷ 2 ∷ 2
+    ∷ 0 ∷ 0 ∷ 0 ∷ 0 ∷ 0 ∷ 4 ∷ 0 ∷ 1 ∷ 3 ∷ 1 ∷ 1 ∷ 0 ∷ 4 ∷ 0 ∷ 2 ∷ 0 ∷ 4 ∷ 1 ∷ 3 ∷ 0 ∷ 2 ∷ 0 ∷ 0 ∷ 0 ∷ [])
+
+abbrev table283 : List ℕ
+table283 = bytes (3 ∷ 4 ∷ 4 ∷ 4 ∷ 1 ∷ 1 ∷ 1 ∷ 0 ∷ 0 ∷ 1 ∷ 1 ∷ 0 ∷ 0 ∷ 3 ∷ 1 ∷ 1 ∷ 1 ∷ 1 ∷ 4 ∷ 0 ∷ 0 ∷ 3 ∷ 11 ∷ 1 ∷ 1 ∷ 0 ∷ 0 ∷ 0 ∷ 1 ∷ 11 ∷ 0 ∷ 0 ∷ 3 ∷ 0 ∷ 1
+    ∷ 11 ∷ 0 ∷ 0 ∷ 0 ∷ 0 ∷ 1 ∷ 0 ∷ 0 ∷ 4 ∷ 1 ∷ 3 ∷ 0 ∷ 0 ∷ 0 ∷ 0 ∷ 0 ∷ 0 ∷ 0 ∷ 0 ∷ 0 ∷ 0 ∷ 0 ∷ 0 ∷ 0 ∷ [])
+
+-- The checkpoints of well laid tables that no run makes, some of which no cut uses.
+abbrev saves_unmade : List Saves
+saves_unmade = saves table273 (save 0 2 (2 ∷ 2 ∷ []) false ∷ []) ∷ saves table274 (save 0 2 (2 ∷ 1 ∷ []) false ∷ save 1 1 (2 ∷ 1 ∷ []) true ∷ [])
+    ∷ saves table275 (save 0 2 (2 ∷ 3 ∷ []) false ∷ save 1 3 (2 ∷ 3 ∷ []) true ∷ []) ∷ saves table276 (save 0 1 (1 ∷ []) true ∷ save 0 2 (2 ∷ []) true
+    ∷ save 0 3 (3 ∷ []) true ∷ []) ∷ saves table277 (save 0 1 (1 ∷ 0 ∷ []) true ∷ save 1 1 (2 ∷ 1 ∷ []) true ∷ [])
+    ∷ saves table278 (save 0 1 (1 ∷ 0 ∷ []) true ∷ save 1 2 (0 ∷ 2 ∷ []) false ∷ []) ∷ saves table279 (save 0 3 (3 ∷ 0 ∷ []) true ∷ [])
+    ∷ saves table280 (save 0 3 (3 ∷ 0 ∷ []) false ∷ save 1 1 (0 ∷ 1 ∷ []) true ∷ []) ∷ saves table281 (save 0 1 (1 ∷ 3 ∷ 2 ∷ []) true ∷ [])
+    ∷ saves table282 (save 1 1 (0 ∷ 1 ∷ 0 ∷ []) true ∷ save 2 4 (0 ∷ 0 ∷ 4 ∷ []) false ∷ []) ∷ saves table283 (save 0 1 (1 ∷ 2 ∷ 1 ∷ []) true
+    ∷ save 0 2 (2 ∷ 2 ∷ 1 ∷ []) true ∷ save 0 4 (4 ∷ 2 ∷ 1 ∷ []) true ∷ save 1 1 (0 ∷ 1 ∷ 0 ∷ []) true ∷ save 1 2 (4 ∷ 2 ∷ 1 ∷ []) true ∷ []) ∷ []
+
+pub saves_unmade_agree : AgreeSaves saves_unmade
+unfolding decoded word put_word put_words
+saves_unmade_agree = refl

@@ -2,14 +2,15 @@
 //! definitions and theorems that hold the rules to them. With the word `text` it prints TextVectors.antt instead.
 use cases::calls::numbers;
 use cases::chosen::{
-    count_into_next_section, crossed, full, grounded_astray, grounded_of_two, lined, one_free_at, Answered,
-    WORKED, WORKED_GROUNDS,
+    count_into_next_section, crossed, full, grounded_astray, grounded_of_two, idle_saves, lined, one_free_at,
+    Answered, WORKED, WORKED_GROUNDS,
 };
 use cases::cut::{self, has_orphan, in_transit, last_line, listed, tuples};
 use cases::made::altered;
+use cases::saves::{idle, saves};
 use cases::table::{
     changed, checkpoint, forced, old_table_length, receipt, record, section, send, words_of_records, Record,
-    A, B, CARRIED, COUNT, KIND, NUMBER, RECEIPT, SENDS,
+    A, B, CARRIED, COUNT, FORCED, KIND, NUMBER, RECEIPT, SENDS,
 };
 use cases::{
     area_length, from_records, from_words, messages, on_reference, records, remember, step, table_length,
@@ -32,10 +33,14 @@ const UNMADE: [(u32, u32); 14] = [
     (1, 1), (1, 3), (2, 1), (2, 2), (2, 3), (2, 4), (2, 5), (2, 6), (3, 2), (3, 3), (3, 4), (3, 4), (3, 5), (3, 6),
 ];
 
+/// n and E of the tables with checkpoints to use, of either sort. All their cuts are tried, by the prover too.
+const SAVED: [(u32, u32); 8] = [(1, 3), (2, 2), (2, 3), (2, 4), (2, 4), (3, 3), (3, 4), (3, 4)];
+
 const HEAD: &str = "\
 -- Vectors for the rules. Generated: `cargo run -p vectors` in tests/ prints this file. Every number, table and answer below comes from
--- the reference engine in tests/reference, which shares nothing with the definitions that are tried here.
-use Rattle.std.specs.Prelude.{refl, List, [], ◌∷◌, ◌++◌, ℕ}
+-- the reference engine in tests/reference, but the cuts of the last two groups from a search of all cuts in tests/cases; neither shares
+-- anything with the definitions that are tried here.
+use Rattle.std.specs.Prelude.{refl, true, false, List, [], ◌∷◌, ◌++◌, ℕ}
 use Rattle.std.specs.Int.Count.{ones, ones_in}
 use Rattle.xdr.specs.Words.{word, put_word, put_words, bytes}
 use Rattle.rules.specs.Table.{layout, decoded, well_laid}
@@ -47,7 +52,7 @@ use Rattle.rules.specs.Grounds.{grounds, grounds_on}
 use Rattle.rules.specs.Resend.{in_transit, resend_on}
 use Rattle.rules.specs.Lists.{check}
 use Rattle.rules.specs.Audit.{advance, sweep, sweeps, replayed, audited, audit_on}
-use Rattle.vectors.specs.Try.{Script, script, refused, accepted, grounded, resend, audit, lent, Agree}
+use Rattle.vectors.specs.Try.{Script, script, refused, accepted, grounded, resend, audit, lent, Agree, Saves, saves, save, AgreeSaves}
 ";
 
 const UNFOLDING: &str =
@@ -58,6 +63,8 @@ const GROUNDS_UNFOLDING: &str =
 
 const AUDIT_UNFOLDING: &str =
     "unfolding audit_on audited replayed sweeps sweep advance check layout decoded well_laid word put_word put_words";
+
+const SAVES_UNFOLDING: &str = "unfolding decoded word put_word put_words";
 
 /// A list as antt has it.
 fn list<T: ToString>(items: &[T]) -> String {
@@ -140,19 +147,59 @@ impl File {
             let steps: Vec<String> = own.steps.iter().map(|step| step.text(self)).collect();
             bodies.push((start, steps));
         }
+        self.list(name, note, &SCRIPTS, unfolding, bodies);
+    }
+
+    /// Writes the checkpoints of tables as one list, each with the cut through it and whether any cut uses it, and the theorem that
+    /// the rules agree.
+    fn saves(&mut self, name: &str, note: &str, tables: &[Vec<u8>]) {
+        let mut bodies = Vec::new();
+        for table in tables {
+            let (start, sections) = (self.table(table), records(table));
+            let idle = idle(&sections);
+            let recorded = saves(&sections).filter(|save| save.position > 0);
+            let texts = recorded.map(|save| {
+                let (cut, is_used) = (argument(&save.cut(&sections)), !idle.contains(&save));
+                format!("save {} {} {cut} {is_used}", save.p, save.position)
+            });
+            bodies.push((start, texts.collect()));
+        }
+        self.list(name, note, &SAVES, SAVES_UNFOLDING, bodies);
+    }
+
+    /// Writes a list of this sort, each of its members on a table, and the theorem that the rules agree with it.
+    fn list(
+        &mut self,
+        name: &str,
+        note: &str,
+        sort: &Listed,
+        unfolding: &str,
+        bodies: Vec<(String, Vec<String>)>,
+    ) {
         let mut pieces = Vec::new();
-        for (start, mut steps) in bodies {
-            steps.push(String::from("[])"));
-            steps[0] = format!("script {start} ({}", steps[0]);
-            pieces.extend(steps);
+        for (start, mut own) in bodies {
+            own.push(String::from("[])"));
+            own[0] = format!("{} {start} ({}", sort.member, own[0]);
+            pieces.extend(own);
         }
         pieces.push(String::from("[]"));
         let body = wrapped(&format!("{name} ="), &pieces);
+        let Listed { of, agree, .. } = sort;
         self.text += &format!(
-            "\n-- {note}\nabbrev {name} : List Script\n{body}\n\npub {name}_agree : Agree {name}\n{unfolding}\n{name}_agree = refl\n"
+            "\n-- {note}\nabbrev {name} : List {of}\n{body}\n\npub {name}_agree : {agree} {name}\n{unfolding}\n{name}_agree = refl\n"
         );
     }
 }
+
+/// A sort of list as antt has it: what its members are, how one is written, and what says that the rules agree with all.
+struct Listed {
+    of: &'static str,
+    member: &'static str,
+    agree: &'static str,
+}
+
+const SCRIPTS: Listed = Listed { of: "Script", member: "script", agree: "Agree" };
+const SAVES: Listed = Listed { of: "Saves", member: "saves", agree: "AgreeSaves" };
 
 /// A call, the length of its area, what else it is lent, and its outcome.
 struct Step {
@@ -314,8 +361,8 @@ fn worked_controller() -> Script {
     ])
 }
 
-/// A run from fresh with refusals and overtaking, then its lines.
-fn random_run(rng: &mut Rng, n: u32, e: u32, steps: u32) -> Script {
+/// A run from fresh with refusals and overtaking.
+fn random_steps(rng: &mut Rng, n: u32, e: u32, steps: u32) -> Script {
     let mut script = Script::fresh(n, e);
     let mut known = Vec::new();
     for _ in 0..steps {
@@ -325,6 +372,12 @@ fn random_run(rng: &mut Rng, n: u32, e: u32, steps: u32) -> Script {
             remember(rng, &mut known, call, &script.table);
         }
     }
+    script
+}
+
+/// The same, then its lines.
+fn random_run(rng: &mut Rng, n: u32, e: u32, steps: u32) -> Script {
+    let mut script = random_steps(rng, n, e, steps);
     script.lines(&[0, 1, 2, 3, n * e, MAX]);
     script
 }
@@ -766,6 +819,33 @@ fn lines_of_runs() -> Vec<Script> {
     [worked, lines_of(&fresh, &[vec![0, 0]]), lines_around(&fresh)].into_iter().chain(saved).collect()
 }
 
+/// Document 02, slip 9: small tables with checkpoints. Those that runs leave have forced ones; of those of no run every other one has
+/// a checkpoint that no cut uses.
+fn tables_for_saves(rng: &mut Rng) -> [Vec<Vec<u8>>; 2] {
+    let has_forced = |table: &[u8]| records(table).iter().flatten().any(|r| r[KIND] == FORCED);
+    let has_idle = |table: &[u8]| !idle(&records(table)).is_empty();
+    let mut left = |(n, e): (u32, u32)| loop {
+        let table = random_steps(rng, n, e, 4 * n * e).table;
+        if n == 1 || has_forced(&table) {
+            return table;
+        }
+    };
+    let made = SAVED.map(&mut left).to_vec();
+    let mut drawn = |(i, (n, e)): (usize, (u32, u32))| loop {
+        let table = well_laid(rng, n, e);
+        if has_idle(&table) == (n > 1 && i % 2 == 0) && Script::on(&table).audited() == 0 {
+            return table;
+        }
+    };
+    let mut unmade: Vec<_> = idle_saves().iter().map(|sections| from_records(3, sections)).collect();
+    unmade.extend(SAVED.into_iter().enumerate().map(&mut drawn));
+    assert!(
+        made.iter().all(|table| !has_idle(table))
+            && unmade.iter().filter(|table| has_idle(table)).count() > 4
+    );
+    [made, unmade]
+}
+
 /// Document 02, slip 2: failed processes at their counts, on a fresh table and after a checkpoint.
 fn just_saved() -> Script {
     let mut script = Script::fresh(2, 4);
@@ -858,6 +938,12 @@ fn rules() -> String {
     );
     let last = "The last numbered lines of the well laid tables that no run makes, and 4 before 15.";
     file.group("lines_unmade", last, around(&unmade));
+    let [made, unmade] = tables_for_saves(&mut rng);
+    let all_used =
+        "The checkpoints of tables that runs leave: the cut through each, and that some cut uses it.";
+    file.saves("saves_made", all_used, &made);
+    let some_idle = "The checkpoints of well laid tables that no run makes, some of which no cut uses.";
+    file.saves("saves_unmade", some_idle, &unmade);
     assert_eq!(file.met, numbers(), "the numbers that are met");
     file.text
 }
