@@ -3,7 +3,7 @@
 //! small dimensions it is what the proved engine's other calls leave, with no word of the reference.
 use beside::drawn::made;
 use beside::{on_proved, pair_of_words, seed, Origin, Pair};
-use cases::chosen::{crossed, full, WORKED};
+use cases::chosen::{bad_tables, crossed, full, WORKED};
 use cases::cut::has_orphan;
 use cases::made::{altered, down_the_ring, one_word_changed, run, sweeps};
 use cases::table::{
@@ -217,16 +217,10 @@ fn the_rows_of_area_and_scratch() {
     let made = worked_controller().table().to_vec();
     let unmade = from_records(6, &[vec![checkpoint(2)], vec![], vec![]]);
     let length = made.len();
-    let mut words = to_words(&made);
-    words[section(6, 2) + COUNT] += 1;
-    let laid_badly = from_words(&words);
-    let mut dimensions = laid_badly.clone();
-    dimensions[3] = 17;
     for (area, scratch) in [(4, length), (4, 0), (0, length), (5, length + 1)] {
-        check(&laid_badly[..7], area, scratch, 2);
-        check(&dimensions[..length - 1], area, scratch, 1);
-        check(&laid_badly[..length - 1], area, scratch, 2);
-        check(&laid_badly, area, scratch, 3);
+        for (table, returned) in bad_tables(6, &records(&made)) {
+            check(&table, area, scratch, returned);
+        }
     }
     // A scratch that is as long as a table that has the wrong length.
     check(&made[..length - 4], 4, length - 4, 2);

@@ -2,7 +2,7 @@
 //! made beside the reference engine. Tables have document 02's fourth word, and receipts its places: tests/carried.rs and
 //! tests/places.rs have more of these.
 use beside::{pair_of_words, Origin, Pair};
-use cases::chosen::{count_into_next_section, full, one_free_at, ONE_OF_EACH};
+use cases::chosen::{bad_tables, count_into_next_section, full, one_free_at, ONE_OF_EACH};
 use cases::table::{
     changed, checkpoint, forced, record, section, words_of_records, A, B, CARRIED, COUNT, KIND, NUMBER,
     SENDS, WIDTH,
@@ -252,22 +252,11 @@ fn an_equal_number_forces_nothing() {
     assert_eq!(records(pair.table())[1], [[1, 1, 0, 0], [4, 0, 1, 1], [2, 2, 0, 0], [4, 0, 2, 2]]);
 }
 
-/// Tables that meet rows 2, 1, 2 and 3, each all rows of the table that come after as well; then the number.
-fn bad_tables() -> Vec<(Vec<u8>, u32)> {
-    let mut words = words_of_records(4, &full());
-    words[section(4, 0) + COUNT] = 5; // c above E
-    let laid_badly = from_words(&words);
-    let long = [&laid_badly[..], &[0]].concat();
-    words[0] = 17;
-    let dimensions = [&from_words(&words)[..], &[0]].concat();
-    vec![(dimensions[..7].to_vec(), 2), (dimensions, 1), (long, 2), (laid_badly, 3)]
-}
-
 /// Each case meets its row and, as far as they can be met together, all rows after it. Repaired row by row, they show
 /// the next number each time.
 #[test]
 fn the_first_row_met_is_returned() {
-    let full = from_records(4, &full());
+    let (bad, full) = (bad_tables(4, &full()), from_records(4, &full()));
     let check = |table: &[u8], call: Call, area: usize, returned: u32| {
         assert_eq!(
             Pair::new(table, ORIGIN).call(call, &vec![0xEE; area]).0,
@@ -285,8 +274,8 @@ fn the_first_row_met_is_returned() {
         Audit,
     ];
     for call in outside {
-        for (table, returned) in bad_tables() {
-            check(&table, call, 7, returned);
+        for (table, returned) in &bad {
+            check(table, call, 7, *returned);
         }
         // Areas of another call's length among them.
         for area in (0..=24).filter(|&area| area != call.area_length(3)) {
@@ -294,8 +283,8 @@ fn the_first_row_met_is_returned() {
         }
     }
     // Without positions and an area: tests/resend.rs has the rows that come after.
-    for (table, returned) in bad_tables() {
-        check(&table, Resend, 0, returned);
+    for (table, returned) in &bad {
+        check(table, Resend, 0, *returned);
     }
 
     for p in [3, 4, 16, 1 << 31, MAX] {

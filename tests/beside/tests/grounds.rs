@@ -3,15 +3,14 @@
 use beside::cuts::{failed, History};
 use beside::tables::{every_table, largest, ring, MAKERS};
 use beside::{pair_of_words, seed, Origin, Pair};
-use cases::chosen::{crossed, grounded_astray, grounded_of_two, Answered, WORKED, WORKED_GROUNDS};
+use cases::chosen::{
+    bad_tables, crossed, grounded_astray, grounded_of_two, Answered, WORKED, WORKED_GROUNDS,
+};
 use cases::cut::last_saved;
 use cases::made::run;
-use cases::table::{
-    changed, checkpoint, is_send, receipt, section, send, words_of_records, Record, A, B, COUNT, KIND,
-    RECEIPT, SEND,
-};
+use cases::table::{changed, checkpoint, is_send, receipt, send, Record, A, B, KIND, RECEIPT, SEND};
 use cases::Call::{self, Checkpoint, Failed, Grounds};
-use cases::{from_records, from_words, perhaps_damaged, to_words, well_laid};
+use cases::{from_records, perhaps_damaged, to_words, well_laid};
 use std::fmt;
 
 const ORIGIN: Origin = Origin { test: "grounds", seed: 0, case: 0 };
@@ -449,19 +448,13 @@ fn the_rows_of_the_table() {
         let returned = Pair::new(table, ORIGIN).call(Grounds { mask }, &vec![LENT; area]).0;
         assert_eq!(returned, number, "area of {area}, mask {mask}");
     };
-    let good = words_of_records(4, &[vec![send(1, 1, 0)], vec![receipt(0, 1, 0)], vec![]]);
-    let bad = from_words(&changed(&good, &[(section(4, 2) + COUNT, 1)]));
-    let mut dimensions = bad.clone();
-    dimensions[3] = 17;
-    let (good, length) = (from_words(&good), bad.len());
+    let sections = [vec![send(1, 1, 0)], vec![receipt(0, 1, 0)], vec![]];
     for (area, mask) in [(24, 0), (24, 8), (23, 1), (0, MAX)] {
-        check(&bad[..7], area, mask, 2);
-        check(&dimensions, area, mask, 1);
-        check(&dimensions[..length - 1], area, mask, 1);
-        check(&bad[..length - 1], area, mask, 2);
-        check(&[&bad[..], &[0]].concat(), area, mask, 2);
-        check(&bad, area, mask, 3);
+        for (table, returned) in bad_tables(4, &sections) {
+            check(&table, area, mask, returned);
+        }
     }
+    let good = from_records(4, &sections);
     check(&good, 23, 8, 4);
     check(&good, 24, 8, 11);
     check(&good, 24, 7, 0);

@@ -2,12 +2,12 @@
 //! and area must stay as they were if it is refused, and judged here by the documents' words, from the table's bytes on.
 use beside::tables::{largest, MAKERS};
 use beside::{pair_of_words, seed, Origin, Pair};
-use cases::chosen::{lined, Answered, WORKED};
+use cases::chosen::{bad_tables, lined, Answered, WORKED};
 use cases::cut::{has_orphan, last_line, saved, saved_position, tuples};
 use cases::made::run;
 use cases::table::{
-    changed, checkpoint, forced, is_checkpoint, number_of, section, send, words_of_records, Record, A, B,
-    CARRIED, CHECKPOINT, COUNT, FORCED, HEADING, KIND, NUMBER, RECEIPT, SEND, SENDS, WIDTH,
+    changed, checkpoint, forced, is_checkpoint, number_of, section, send, Record, A, B, CARRIED, CHECKPOINT,
+    COUNT, FORCED, HEADING, KIND, NUMBER, RECEIPT, SEND, SENDS, WIDTH,
 };
 use cases::Call::Line;
 use cases::{
@@ -420,19 +420,13 @@ fn the_rows_of_the_table() {
         let outcome = compare(&mut pair, &read, &vec![LENT; area], number, &mut Tally::default());
         assert_eq!(outcome.returned, returned, "area of {area}, line {number}");
     };
-    let good = words_of_records(4, &[vec![checkpoint(1)], vec![forced(1)], vec![]]);
-    let bad = from_words(&changed(&good, &[(section(4, 2) + COUNT, 1)]));
-    let mut dimensions = bad.clone();
-    dimensions[3] = 17;
-    let (good, length) = (from_words(&good), bad.len());
+    let sections = [vec![checkpoint(1)], vec![forced(1)], vec![]];
     for (area, number) in [(12, 0), (12, 1), (11, 0), (11, 1), (0, MAX)] {
-        check(&bad[..7], area, number, 2);
-        check(&dimensions, area, number, 1);
-        check(&dimensions[..length - 1], area, number, 1);
-        check(&bad[..length - 1], area, number, 2);
-        check(&[&bad[..], &[0]].concat(), area, number, 2);
-        check(&bad, area, number, 3);
+        for (table, returned) in bad_tables(4, &sections) {
+            check(&table, area, number, returned);
+        }
     }
+    let good = from_records(4, &sections);
     check(&good, 11, 1, 4);
     check(&good, 12, 1, 15);
     check(&good, 12, 0, 0);

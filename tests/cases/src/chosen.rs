@@ -1,7 +1,8 @@
 //! One call of each kind, the worked controller, and tables, most of which no run makes, chosen for the rows that calls on
 //! them meet and for what they answer.
 use crate::table::{
-    checkpoint, forced, from_records, receipt, section, send, words_of_records, Record, COUNT, WIDTH,
+    checkpoint, forced, from_records, from_words, receipt, section, send, words_of_records, Record, COUNT,
+    WIDTH,
 };
 use crate::Call;
 
@@ -48,6 +49,27 @@ pub fn count_into_next_section() -> Vec<u32> {
     words[section(4, 0) + COUNT] = 5;
     assert_eq!(words[section(4, 1)..][..WIDTH], receipt(1, 3, 1));
     words
+}
+
+/// Tables of these records that rows 2, 1, 2 and 3 stop, most of them met with the rows of the table that come after; then the
+/// number that is returned.
+pub fn bad_tables(e: u32, sections: &[Vec<Record>]) -> Vec<(Vec<u8>, u32)> {
+    let mut words = words_of_records(e, sections);
+    words[section(e, 0) + COUNT] = e + 1;
+    let laid_badly = from_words(&words);
+    words[0] = 17;
+    let dimensions = from_words(&words);
+    let shorter = |table: &[u8]| table[..table.len() - 1].to_vec();
+    let longer = |table: &[u8]| [table, &[0]].concat();
+    vec![
+        (dimensions[..7].to_vec(), 2),
+        (dimensions.clone(), 1),
+        (shorter(&dimensions), 1),
+        (longer(&dimensions), 1),
+        (shorter(&laid_badly), 2),
+        (longer(&laid_badly), 2),
+        (laid_badly, 3),
+    ]
 }
 
 /// n = 3, E = 4. Process 0 has no record free and the number 12 = n × E. Its receipts of (1, 2) and (1, 4) are of a
