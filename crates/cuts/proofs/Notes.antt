@@ -8,13 +8,14 @@ use native.Mathlib.Omega.{arith}
 use native.Mathlib.Decide.{ℕ_discrete}
 use lib.Dec.{leb, eqb}
 use lib.ListN.{length, get_or, set, length-set}
-use lib.Seq.{get_or-set_same, get_or-set_other}
+use lib.Seq.{get_or-set_same, get_or-set_other, set-get_or}
 use Rattle.rules.specs.Records.{Event, basic, forced, sent, received, History, sends, destination, has_receipt}
 use Rattle.tables.proofs.Laid.{Law, Legal, sends_length}
-use Rattle.cuts.specs.Notes.{note_of, noted, span_of, place_in, struck_once, struck}
-use Rattle.std.specs.Prelude.{Option, Some, None}
+use Rattle.cuts.specs.Notes.{note_of, noted, span_of, place_of, Inside, is_receipt, struck}
+use Rattle.rules.specs.Table.{event_at}
+use Rattle.tables.proofs.Scans.{event}
 use Rattle.cuts.specs.declared.Span.{Span}
-use borrow.Author.Tests.{eq-eqb, ne_eqb, leb-true, leb-false, eqb-true}
+use borrow.Author.Tests.{eq-eqb, ne_eqb, le-leb, leb-true, eqb-true}
 use native.Mathlib.Nat.{mod-eq_of_lt}
 use Rattle.basics.proofs.Booleans.{Test, passes, fails, test}
 
@@ -72,13 +73,33 @@ module _ (from : ℕ) (to : List ℕ) where
 
 -- ---- receipts struck
 
-once_length : (p : ℕ) (x : Option ℕ) (to : List ℕ) → length (struck_once p x to) ≡ length to
-once_length p None to = refl
-once_length p (Some i) to = go (eqb (get_or to i 0) p)
+-- every place at which a receipt looks is in the list
+pub place_inside : (spans : List Span) (len q k : ℕ) → Inside spans len → place_of (span_of spans q) k < len
+place_inside spans len q k inside = go (test (leb k c))
   where
-    go : (b : Bool) → length (cond b (set to i 16) to) ≡ length to
-    go true = length-set to i 16
-    go false = refl
+    c : ℕ
+    c = (span_of spans q).count
+
+    s : ℕ
+    s = (span_of spans q).start
+
+    go : Test (leb k c) → cond (leb k c) (s + k) 0 < len
+    go (passes x) = let l = leb-true k c x in let i = inside q in rw x (omega arith)
+    go (fails x) = let i = inside q in rw x (omega arith)
+
+-- the next record, whose words start at word i
+pub strike_next : (spans : List Span) (p : ℕ) (u : List ℕ) (w : ℕ → ℕ) (i : ℕ) {r : Bool} {x v : ℕ} → r ≡ is_receipt (event_at w i)
+    → x ≡ place_of (span_of spans (w (i + 1) % 16)) (w (i + 2)) → v ≡ cond (r && eqb (get_or u x 0) p) 16 (get_or u x 0)
+    → set u x v ≡ struck spans p (event_at w i ∷ []) u
+strike_next spans p u w i {r} {x} {v} k n e =
+    rw (event (λ (f : Event). struck spans p (f ∷ []) u) w i refl, ← n, e, k, event is_receipt w i refl) (go (eqb (w i) 4) (eqb (w i) 3))
+  where
+    go : (f g : Bool)
+        → set u x (cond (cond f true (cond g false false) && eqb (get_or u x 0) p) 16 (get_or u x 0))
+        ≡ cond f (set u x (cond (eqb (get_or u x 0) p) 16 (get_or u x 0))) (cond g u u)
+    go true g = refl
+    go false true = set-get_or u x 0
+    go false false = set-get_or u x 0
 
 module _ (spans : List Span) (p : ℕ) (to : List ℕ) where
   pub struck_length : (h : History) → length (struck spans p h to) ≡ length to
@@ -86,7 +107,17 @@ module _ (spans : List Span) (p : ℕ) (to : List ℕ) where
   struck_length (basic m ∷ h) = struck_length h
   struck_length (forced m ∷ h) = struck_length h
   struck_length (sent q ∷ h) = struck_length h
-  struck_length (received q k c ∷ h) = once_length p (place_in (span_of spans (q % 16)) k) (struck spans p h to) ∙ struck_length h
+  struck_length (received q k c ∷ h) =
+      let u = struck spans p h to in
+      let i = place_of (span_of spans (q % 16)) k in
+      length-set u i (cond (eqb (get_or u i 0) p) 16 (get_or u i 0)) ∙ struck_length h
+
+  -- one record more
+  pub struck_more : (e : Event) (h : History) → struck spans p (e ∷ []) (struck spans p h to) ≡ struck spans p (e ∷ h) to
+  struck_more (basic m) h = refl
+  struck_more (forced m) h = refl
+  struck_more (sent q) h = refl
+  struck_more (received q k c) h = refl
 
   -- what is left of the note of send k of process q, which is the only one at its place
   module _ (n E r q k : ℕ) (fewer : n ≤ 16) (few : p < 16) (lq : q < n) (in_List : (span_of spans q).start + k < length to) (pos : 0 < k)
@@ -95,55 +126,60 @@ module _ (spans : List Span) (p : ℕ) (to : List ℕ) where
     abbrev i : ℕ
     i = (span_of spans q).start + k
 
+    place_only : (q' k' : ℕ) → q' < n → 0 < k' → place_of (span_of spans (q' % 16)) k' ≡ i → (q' ≡ q) × (k' ≡ k)
+    place_only q' k' l pos' e = go (test (leb k' (span_of spans (q' % 16)).count))
+      where
+        m : q' % 16 ≡ q'
+        m = mod-eq_of_lt (omega arith)
+
+        go : Test (leb k' (span_of spans (q' % 16)).count) → (q' ≡ q) × (k' ≡ k)
+        go (passes x) =
+            let le : k' ≤ (span_of spans q').count = leb-true k' (span_of spans q').count (rw m at x) in
+            only q' k' l pos' le (ap (λ (y : ℕ). (span_of spans y).start + k') (sym m) ∙ (rw x at e))
+        go (fails x) = let z : 0 ≡ i = rw x at e in absurd (omega arith)
+
+    place_is : place_of (span_of spans (q % 16)) k ≡ i
+    place_is = let m : q % 16 ≡ q = mod-eq_of_lt (omega arith) in rw (m, le-leb k (span_of spans q).count count)
+
     pub struck_at : (h : History) → Legal n E r h → get_or (struck spans p h to) i 0 ≡ cond (eqb (get_or to i 0) p && has_receipt h q k) 16 (get_or to i 0)
     struck_at [] legal = rw (and-false (eqb (get_or to i 0) p))
     struck_at (basic m ∷ h) legal = struck_at h legal.1
     struck_at (forced m ∷ h) legal = struck_at h legal.1
     struck_at (sent d ∷ h) legal = struck_at h legal.1
-    struck_at (received q' k' c ∷ h) legal = rw small (go (test (leb k' (span_of spans q').count)) (struck_at h legal.1))
+    struck_at (received q' k' c ∷ h) legal = go (ℕ_discrete x i) (struck_at h legal.1)
       where
-        small : q' % 16 ≡ q'
-        small = let law = legal.0 in let l = law.0 in mod-eq_of_lt (omega arith)
-
         u : List ℕ
         u = struck spans p h to
+
+        x : ℕ
+        x = place_of (span_of spans (q' % 16)) k'
 
         d : ℕ
         d = get_or to i 0
 
-        j : ℕ
-        j = (span_of spans q').start + k'
+        -- struck twice is struck once
+        twice : (a b : Bool) → a ≡ eqb d p → cond (eqb (cond (a && b) 16 d) p) 16 (cond (a && b) 16 d) ≡ cond a 16 d
+        twice true true y = rw (ne_eqb 16 p (omega arith))
+        twice true false y = rw (sym y)
+        twice false b y = rw (sym y)
 
-        -- struck there, once or again
-        here : Test (eqb d p) → (a : Bool) → get_or u i 0 ≡ cond (eqb d p && a) 16 d → get_or (struck_once p (Some i) u) i 0 ≡ cond (eqb d p) 16 d
-        here (fails y) a f = let g : get_or u i 0 ≡ d = rw y at f in rw (g, y) g
-        here (passes y) true f = let g : get_or u i 0 ≡ 16 = rw y at f in rw (g, ne_eqb 16 p (omega arith), y) g
-        here (passes y) false f = let g : get_or u i 0 ≡ d = rw y at f in let l = struck_length h in rw (g, y) (get_or-set_same u i 16 0 (omega arith))
-
-        -- a receipt of another send
-        other : (k' ≤ (span_of spans q').count → j ≢ i) → (eqb q' q && eqb k' k) ≡ false
-        other ne = both (test (eqb q' q)) (test (eqb k' k))
+        go : Dec (x ≡ i) → get_or u i 0 ≡ cond (eqb d p && has_receipt h q k) 16 d
+            → get_or (set u x (cond (eqb (get_or u x 0) p) 16 (get_or u x 0))) i 0
+            ≡ cond (eqb d p && ((eqb q' q && eqb k' k) || has_receipt h q k)) 16 d
+        go (yes z) f =
+            let law = legal.0 in
+            let m = place_only q' k' law.0 law.2 z in
+            let l = struck_length h in
+            rw (z, eq-eqb q' q m.0, eq-eqb k' k m.1, and-true (eqb d p), get_or-set_same u i (cond (eqb (get_or u i 0) p) 16 (get_or u i 0)) 0 (omega arith), f)
+            (twice (eqb d p) (has_receipt h q k) refl)
+        go (no z) f =
+            rw (get_or-set_other u x i (cond (eqb (get_or u x 0) p) 16 (get_or u x 0)) 0 (λ y. z (sym y)), f)
+            (ap (λ (b : Bool). cond (eqb d p && (b || has_receipt h q k)) 16 d) (sym (other (test (eqb q' q)) (test (eqb k' k)))))
           where
-            both : Test (eqb q' q) → Test (eqb k' k) → (eqb q' q && eqb k' k) ≡ false
-            both (fails y) b = rw y
-            both (passes y) (fails b) = rw (y, b)
-            both (passes y) (passes b) =
+            other : Test (eqb q' q) → Test (eqb k' k) → (eqb q' q && eqb k' k) ≡ false
+            other (fails y) b = rw y
+            other (passes y) (fails b) = rw (y, b)
+            other (passes y) (passes b) =
                 let f = eqb-true q' q y in
                 let g = eqb-true k' k b in
-                absurd (ne (rw (f, g) count) (rw (f, g)))
-
-        go : Test (leb k' (span_of spans q').count) → get_or u i 0 ≡ cond (eqb d p && has_receipt h q k) 16 d
-            → get_or (struck_once p (place_in (span_of spans q') k') u) i 0 ≡ cond (eqb d p && ((eqb q' q && eqb k' k) || has_receipt h q k)) 16 d
-        go (fails y) f = rw (y, other (λ l. absurd (let g = leb-false k' (span_of spans q').count y in omega arith))) f
-        go (passes y) f = at (ℕ_discrete j i)
-          where
-            elsewhere : j ≢ i → (b : Bool) → get_or (cond b (set u j 16) u) i 0 ≡ get_or u i 0
-            elsewhere ne true = get_or-set_other u j i 16 0 (λ z. ne (sym z))
-            elsewhere ne false = refl
-
-            at : Dec (j ≡ i) → get_or (struck_once p (place_in (span_of spans q') k') u) i 0 ≡ cond (eqb d p && ((eqb q' q && eqb k' k) || has_receipt h q k)) 16 d
-            at (yes z) =
-                let law = legal.0 in
-                let m = only q' k' law.0 law.2 (leb-true k' (span_of spans q').count y) z in
-                rw (y, z, eq-eqb q' q m.0, eq-eqb k' k m.1, and-true (eqb d p)) (here (test (eqb d p)) (has_receipt h q k) f)
-            at (no ne) = rw (y, other (λ l. ne)) (elsewhere ne (eqb (get_or u j 0) p) ∙ f)
+                absurd (z (rw (f, g) place_is))

@@ -19,6 +19,10 @@ meant (event.Received q k c) = records.received q k c
 abbrev pub record_of : Records → ℕ → records.Event
 record_of r i = event_at (word r.bytes.now) (r.at + width * i)
 
+-- its words a and b
+abbrev pub numbers_of : Records → ℕ → ℕ × ℕ
+numbers_of r i = (word r.bytes.now (r.at + width * i + 1), word r.bytes.now (r.at + width * i + 2))
+
 -- the first i records, and all of them, newest first
 abbrev pub first_of : Records → ℕ → records.History
 first_of r i = records_at (word r.bytes.now) r.at i

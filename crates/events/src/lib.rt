@@ -57,7 +57,7 @@ pub trait Test {
 }
 
 impl<'a> Records<'a> {
-    ghost use Rattle.events.specs.Events.{meant, record_of, Spells, held, first_index};
+    ghost use Rattle.events.specs.Events.{meant, record_of, numbers_of, Spells, held, first_index};
 
     // The record at index i. Words become events here, and events words in `From`: a kind is a number there, and where words are tested
     // that may be no table's (used).
@@ -84,6 +84,18 @@ impl<'a> Records<'a> {
             2 => Event::Forced { number: a },
             _ => Event::Basic { number: a },
         }
+    }
+
+    // The words a and b of the record at index i, whatever its kind: of a receipt, the sender and the send number.
+    pub fn numbers(&self, i: usize) -> (u32, u32)
+        requires { i < self.now.count }
+        ensures { result ≡ numbers_of self.now i }
+    {
+        let at = self.at + shape::WIDTH * i;
+        (
+            xdr::get(self.bytes, at + shape::A),
+            xdr::get(self.bytes, at + shape::B),
+        )
     }
 
     // The first i records.

@@ -22,9 +22,9 @@ use std::marker::Model;
 // are.
 #[derive(Clone, Copy, Drop)]
 pub struct Senders {
-    from: usize,
+    pub from: usize,
     pub next: usize,
-    many: usize,
+    pub many: usize,
     pub spans: [Span; 16],
 }
 
