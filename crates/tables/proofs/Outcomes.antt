@@ -8,7 +8,7 @@ use lib.ListN.{length, get_or}
 use borrow.Author.Tests.{ltb-false, not-false}
 use Rattle.xdr.specs.Words.{word}
 use Rattle.xdr.proofs.Words.{Bytes}
-use Rattle.rules.specs.Records.{History, history, number, sends}
+use Rattle.rules.specs.Records.{History, history, number, sends, carried}
 use Rattle.rules.specs.Table.{heading, width, most_words, in_range, section_words, start, records_at, decoded}
 use Rattle.rules.specs.Steps.{Call}
 use Rattle.rules.specs.Calls.{area_length, first, table_rows, step_rows}
@@ -18,7 +18,7 @@ use Rattle.tables.specs.Sections.{SendsLaid}
 use Rattle.tables.proofs.Laid.{legal_number, sends_length}
 use Rattle.tables.proofs.Ranges.{product, in_range_lem}
 use Rattle.tables.proofs.WellLaid.{sections_each, section_of_lem, decoded_at, decoded_words, decoded_short}
-use Rattle.tables.proofs.OneCall.{Valid, valid, table_legal}
+use Rattle.tables.proofs.OneCall.{Valid, valid, table_legal, legal_carried}
 
 -- ---- a table that meets none of its own rows
 
@@ -88,6 +88,12 @@ head t W p lt {E} {at} e s = rw (s, e) here
           low = omega arith;
           few = omega arith;
         }
+
+-- what a message carries
+pub carried_low : (t : List ℕ) → Valid t → (q k : ℕ) → carried (history (decoded t) q) k ≤ 16384
+carried_low t W q k =
+    le_trans (legal_carried (word t 0) (word t 1) q (history (decoded t) q) k (table_legal (word t 0) (word t 1) t W.is q))
+    (product (word t 0) (word t 1) W.range.processes W.range.records)
 
 -- ---- a step that meets no row
 

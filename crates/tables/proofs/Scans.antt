@@ -1,22 +1,22 @@
 -- What one more record does to what a scan has found. A scan reads a record's words, and no kind but 3 and 4 is told apart.
 use mathlib.Core.Path.{◌≡◌, refl, sym, ◌∙◌, subst, ap}
-use mathlib.Core.Bool.{Bool, true, false, cond, ◌&&◌, ◌||◌}
+use mathlib.Core.Bool.{Bool, true, false, not, cond, ◌&&◌, ◌||◌}
 use mathlib.Core.List.{◌∷◌}
 use Prim.Native.Nat.{ℕ, zero, suc, ◌+◌, ◌*◌, ◌≤◌, ◌<◌}
 use native.Mathlib.Numerals.{add-one}
 use native.Mathlib.Omega.{arith}
 use native.Mathlib.Decide.{dec_lt}
-use lib.Dec.{eqb}
+use lib.Dec.{eqb, leb}
 use lib.ListN.{length}
 use borrow.Author.Tests.{eqb-true, lt-leb, le-leb}
 use Rattle.rules.specs.Records.{Event, basic, forced, sent, received, History, number, sends, has_receipt}
 use Rattle.rules.specs.Table.{width, event_at, records_at}
-use Rattle.rules.specs.Lines.{upto}
+use Rattle.rules.specs.Lines.{at_least, upto}
 use Rattle.basics.proofs.Booleans.{Test, passes, fails, test, either}
 use Rattle.tables.proofs.Laid.{sends_length}
 use Rattle.tables.proofs.WellLaid.{records_length}
-use Rattle.basics.proofs.Older.{Older}
-use Rattle.records.proofs.Cuts.{upto_is_older}
+use Rattle.basics.proofs.Older.{Older, older_length}
+use Rattle.records.proofs.Cuts.{upto_is_older, upto_older}
 
 -- a value that is the same for basic and forced checkpoints
 pub event : {A : Type 0} (f : Event → A) (w : ℕ → ℕ) (i : ℕ) → f (forced (w (i + 1))) ≡ f (basic (w (i + 1)))
@@ -72,6 +72,15 @@ module _ (h : History) (w : ℕ → ℕ) (i : ℕ) where
       go false false u v true = refl
       go false false u v false = refl
 
+-- a checkpoint with a number of N or more
+pub least_event : (N : ℕ) (w : ℕ → ℕ) (i : ℕ) → at_least N (event_at w i) ≡ (not (eqb (w i) 4 || eqb (w i) 3) && leb N (w (i + 1)))
+least_event N w i = event (at_least N) w i refl ∙ go (eqb (w i) 4) (eqb (w i) 3)
+  where
+    go : (x y : Bool) → cond x false (cond y false (leb N (w (i + 1)))) ≡ (not (x || y) && leb N (w (i + 1)))
+    go true y = refl
+    go false true = refl
+    go false false = refl
+
 -- ---- the first i records from word `at` on, and the next one, of which the words kind, a and b are read
 
 module _ (w : ℕ → ℕ) (at i : ℕ) where
@@ -89,6 +98,10 @@ module _ (w : ℕ → ℕ) (at i : ℕ) where
     module _ {a : ℕ} (y : a ≡ w (here + 1)) where
       pub number_next : {m r : ℕ} → m ≡ number past → r ≡ cond (eqb kind 4 || eqb kind 3) m a → r ≡ number (records_at w at (i + 1))
       number_next e r = r ∙ rw (e, x, y, add-one i) (sym (number_event past w here))
+
+      pub receipt_next : (q k : ℕ) {b : ℕ} → b ≡ w (here + 2) → {f : Bool} → f ≡ has_receipt past q k
+          → (f || (eqb kind 4 && eqb a q && eqb b k)) ≡ has_receipt (records_at w at (i + 1)) q k
+      receipt_next q k z e = rw (e, x, y, z, add-one i) (sym (receipt_event past w here q k))
 
 -- no section has more sends than records
 pub sends_at_most : (w : ℕ → ℕ) (at i : ℕ) → sends (records_at w at i) ≤ i
@@ -113,3 +126,9 @@ module _ (w : ℕ → ℕ) (at : ℕ) where
   -- they are an older part, and every older part is some first ones
   pub first_older : (i c : ℕ) → i ≤ c → Older (records_at w at i) (records_at w at c)
   first_older i c le = subst (λ (h : History). Older h (records_at w at c)) (records_upto i c le) (upto_is_older i (records_at w at c))
+
+  pub older_first : (c : ℕ) {g : History} → Older g (records_at w at c) → g ≡ records_at w at (length g)
+  older_first c {g} o =
+      let n = records_length w at c in
+      let l = older_length o in
+      sym (upto_older o) ∙ records_upto (length g) c (omega arith)

@@ -2,12 +2,17 @@
 use mathlib.Core.Path.{◌≡◌, refl, sym, ap, ◌∙◌}
 use mathlib.Core.Bool.{Bool, true, false, ◌&&◌, and-eq-true_iff, false≢true, and_comm}
 use Prim.Native.Nat.{ℕ, zero, suc, ◌+◌, ◌-◌, ◌*◌, ◌≤◌, ◌<◌}
+use native.Mathlib.Nat.{mul-le-mul_right}
+use native.Mathlib.Omega.{arith}
 use lib.Dec.{eqb, leb}
 use borrow.Author.Tests.{leb-true}
 use Rattle.rules.specs.Records.{number, sends}
 use Rattle.rules.specs.Table.{heading, width, start, zeros_at, sections_ok, section_ok, records_ok, records_at}
 use Rattle.tables.specs.Sections.{every, rear_ok, front_ok}
 use Rattle.basics.proofs.Booleans.{Test, passes, fails, test, interchange, each_below}
+
+pub start_most : (e p n : ℕ) → p < n → start e (p + 1) ≤ start e n
+start_most e p n l = let m = mul-le-mul_right {m = p + 1} {n = n} (heading + width * e) (omega arith) in omega arith
 
 module _ (f : ℕ → Bool) where
   pub every_at : (m p : ℕ) → p < m → every f m ≡ true → f p ≡ true
