@@ -1,9 +1,10 @@
--- The rows of a step on a well laid table, as far as the functions of this crate check them one after the other.
+-- The rows of a step, as far as the functions of this crate check them one after the other.
 use Rattle.std.specs.Prelude.{◌≡◌, not, cond, ◌||◌, List, [], ◌∷◌, ◌++◌, ℕ, ◌+◌, ◌<◌, eqb, leb, ltb, length}
+use Rattle.xdr.specs.Words.{word}
 use Rattle.rules.specs.Records.{History, history, number, carried, send_place, has_send, has_receipt}
-use Rattle.rules.specs.Table.{start}
+use Rattle.rules.specs.Table.{start, decoded}
 use Rattle.rules.specs.Steps.{Call}
-use Rattle.rules.specs.Calls.{Row, row, first, step_rows}
+use Rattle.rules.specs.Calls.{Row, row, first, table_rows, step_rows}
 use Rattle.layout.specs.declared.Section.{Section}
 use Rattle.layout.specs.declared.Table.{Table}
 use Rattle.layout.specs.Tables.{state_of, Heads}
@@ -33,6 +34,14 @@ Reads g k s = (s.carried ≡ carried g k) × (s.place ≡ send_place g k)
 abbrev pub Acts : Table → ℕ → Section → Type 0
 Acts table p section = (p < table.n) × Heads section (start table.e p) (history (state_of table) p)
 
+-- the same of the bytes that are lent
+abbrev pub ActsIn : List ℕ → ℕ → Section → Type 0
+ActsIn t p section = (p < word t 0) × Heads section (start (word t 1) p) (history (decoded t) p)
+
 -- the row that stops a step on a well laid table
-abbrev pub step_row : Table → ℕ → Call → ℕ → ℕ
-step_row table p call len = first (step_rows table.n table.e (state_of table) p call len)
+abbrev pub laid_row : Table → ℕ → Call → ℕ → ℕ
+laid_row table p call len = first (step_rows table.n table.e (state_of table) p call len)
+
+-- and on any bytes
+abbrev pub step_row : List ℕ → ℕ → Call → ℕ → ℕ
+step_row t p call len = first (table_rows t ++ step_rows (word t 0) (word t 1) (decoded t) p call len)

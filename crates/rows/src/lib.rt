@@ -3,11 +3,12 @@
 
 ghost use Rattle.std.specs.Prelude.{◌≡◌, cond, ◌+◌, ◌*◌, ◌<◌, ◌≤◌, IfOk, ltb};
 ghost use Rattle.rules.specs.Records.{history};
+ghost use Rattle.rules.specs.Table.{decoded};
 ghost use Rattle.rules.specs.Steps.{checkpoint, send, receipt};
 ghost use Rattle.rules.specs.Calls.{first};
 ghost use Rattle.refusals.specs.Refusals.{returned};
 ghost use Rattle.layout.specs.Tables.{state_of};
-ghost use Rattle.rows.specs.Rows.{act_rows, pair_rows, receipt_rows, Reads, Acts, step_row};
+ghost use Rattle.rows.specs.Rows.{act_rows, pair_rows, receipt_rows, Reads, Acts, ActsIn, laid_row, step_row};
 
 use layout::{Section, Table};
 use refusals::Refusal;
@@ -36,9 +37,9 @@ fn is_full(section: Section, e: usize, needed: u32) -> bool
     e < (section.count + needed) as usize
 }
 
-// The section of process p, where no row stops a checkpoint.
-pub fn checkpoint_row(table: &Table, len: usize, p: usize) -> Result<Section, Refusal>
-    ensures row { returned result ≡ step_row table.now p checkpoint len }
+// The section of process p, where no row of a step stops its checkpoint.
+fn laid_checkpoint(table: &Table, len: usize, p: usize) -> Result<Section, Refusal>
+    ensures row { returned result ≡ laid_row table.now p checkpoint len }
     ensures section { IfOk result (Acts table.now p) }
 {
     let section = act_row(table, len, 4, p)?;
@@ -49,6 +50,14 @@ pub fn checkpoint_row(table: &Table, len: usize, p: usize) -> Result<Section, Re
         return Err(Refusal::NumberAtLimit);
     }
     Ok(section)
+}
+
+// The section of process p, where no row stops its checkpoint. Any bytes may be lent: the rows of the table come first.
+pub fn checkpoint_row(t: &[u8], len: usize, p: usize) -> Result<Section, Refusal>
+    ensures row { returned result ≡ step_row t.now p checkpoint len }
+    ensures section { IfOk result (ActsIn t.now p) }
+{
+    laid_checkpoint(&Table::read(t)?, len, p)
 }
 
 // The section of the acting process, where the area, it and the other process pass.
@@ -63,9 +72,9 @@ fn pair_row(table: &Table, len: usize, want: usize, p: usize, q: usize) -> Resul
     Ok(section)
 }
 
-// The section of process p, where no row stops its send to q.
-pub fn send_row(table: &Table, len: usize, p: usize, q: usize) -> Result<Section, Refusal>
-    ensures row { returned result ≡ step_row table.now p (send q) len }
+// The section of process p, where no row of a step stops its send to q.
+fn laid_send(table: &Table, len: usize, p: usize, q: usize) -> Result<Section, Refusal>
+    ensures row { returned result ≡ laid_row table.now p (send q) len }
     ensures section { IfOk result (Acts table.now p) }
 {
     let section = pair_row(table, len, 8, p, q)?;
@@ -73,6 +82,14 @@ pub fn send_row(table: &Table, len: usize, p: usize, q: usize) -> Result<Section
         return Err(Refusal::NoRecordsLeft);
     }
     Ok(section)
+}
+
+// The section of process p, where no row stops its send to q.
+pub fn send_row(t: &[u8], len: usize, p: usize, q: usize) -> Result<Section, Refusal>
+    ensures row { returned result ≡ step_row t.now p (send q) len }
+    ensures section { IfOk result (ActsIn t.now p) }
+{
+    laid_send(&Table::read(t)?, len, p, q)
 }
 
 // The records that a receipt needs.
@@ -107,18 +124,32 @@ fn message_row(
     Ok(sent)
 }
 
-// The section of process p and the send, where no row stops the receipt of message k of q.
-pub fn receipt_row(
+// The section of process p and the send, where no row of a step stops the receipt of message k of q.
+fn laid_receipt(
     table: &Table,
     len: usize,
     p: usize,
     q: usize,
     k: usize,
 ) -> Result<(Section, Sent), Refusal>
-    ensures row { returned result ≡ step_row table.now p (receipt q k) len }
+    ensures row { returned result ≡ laid_row table.now p (receipt q k) len }
     ensures sent { IfOk result (λ r. Acts table.now p r.0 × Reads (history (state_of table.now) q) k r.1) }
 {
     let section = pair_row(table, len, 16, p, q)?;
     let sent = message_row(table, section, p, q, k)?;
     Ok((section, sent))
+}
+
+// The section of process p and the send, where no row stops the receipt of message k of q.
+pub fn receipt_row(
+    t: &[u8],
+    len: usize,
+    p: usize,
+    q: usize,
+    k: usize,
+) -> Result<(Section, Sent), Refusal>
+    ensures row { returned result ≡ step_row t.now p (receipt q k) len }
+    ensures sent { IfOk result (λ r. ActsIn t.now p r.0 × Reads (history (decoded t.now) q) k r.1) }
+{
+    laid_receipt(&Table::read(t)?, len, p, q, k)
 }

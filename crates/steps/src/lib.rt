@@ -7,18 +7,16 @@ ghost use Rattle.rules.specs.Calls.{outcome, step_on};
 ghost use Rattle.refusals.specs.Refusals.{returned};
 
 use events::Event;
-use layout::Table;
 use refusals::Refusal;
 
 // A checkpoint of process p.
 pub fn checkpoint(table: &mut [u8], area: &mut [u8], p: u32) -> Result<(), Refusal>
     ensures { outcome (returned result) table.new area.new ≡ step_on table.old area.old p checkpoint_call }
 {
-    let before = Table::read(table)?;
-    let section = rows::checkpoint_row(&before, area.len(), p as usize)?;
+    let section = rows::checkpoint_row(table, area.len(), p as usize)?;
     let x = section.number + 1;
     let basic = Event::Basic { number: x };
-    store::add_record(table, section, x, section.sends, basic);
+    store::add_record(table, section, x, section.sends, basic.into());
     xdr::put(area, 0, x);
     Ok(())
 }
@@ -27,8 +25,7 @@ pub fn checkpoint(table: &mut [u8], area: &mut [u8], p: u32) -> Result<(), Refus
 pub fn send(table: &mut [u8], area: &mut [u8], p: u32, q: u32) -> Result<(), Refusal>
     ensures { outcome (returned result) table.new area.new ≡ step_on table.old area.old p (send_call q) }
 {
-    let before = Table::read(table)?;
-    let section = rows::send_row(&before, area.len(), p as usize, q as usize)?;
+    let section = rows::send_row(table, area.len(), p as usize, q as usize)?;
     let x = section.number;
     let s = section.sends + 1;
     let event = Event::Sent {
@@ -36,7 +33,7 @@ pub fn send(table: &mut [u8], area: &mut [u8], p: u32, q: u32) -> Result<(), Ref
         k: s,
         carried: x,
     };
-    store::add_record(table, section, x, s, event);
+    store::add_record(table, section, x, s, event.into());
     xdr::put_all(area, 0, [s, x]);
     Ok(())
 }
@@ -53,14 +50,7 @@ fn place_behind(c: u32, forced: bool) -> u32
 pub fn receipt(table: &mut [u8], area: &mut [u8], p: u32, q: u32, k: u32) -> Result<(), Refusal>
     ensures { outcome (returned result) table.new area.new ≡ step_on table.old area.old p (receipt_call q k) }
 {
-    let before = Table::read(table)?;
-    let (section, sent) = rows::receipt_row(
-        &before,
-        area.len(),
-        p as usize,
-        q as usize,
-        k as usize,
-    )?;
+    let (section, sent) = rows::receipt_row(table, area.len(), p as usize, q as usize, k as usize)?;
     let carried = sent.carried;
     let sent_at = sent.place;
     let forced = store::add_receipt(table, section, carried, q, k);

@@ -21,13 +21,13 @@ module _ (t : List ℕ) (q k at c x s m : ℕ) where
   abbrev two : List ℕ
   two = put_words (put_words t at ((c + 2) ∷ m ∷ s ∷ [])) (at + heading + width * c) (2 ∷ m ∷ 0 ∷ 0 ∷ 4 ∷ q ∷ k ∷ m ∷ [])
 
-  pub forced_behind : ltb x m ≡ true → (f : ℕ) {n e i : ℕ} {v w y z : List ℕ} → c + 1 + f ≡ c + 2 → n ≡ m → v ≡ put_words t at ((c + 1 + f) ∷ n ∷ s ∷ [])
-      → e ≡ at + heading + width * c → w ≡ put_words v e (2 ∷ m ∷ 0 ∷ 0 ∷ []) → y ≡ w → i ≡ e + width → z ≡ put_words y i (4 ∷ q ∷ k ∷ m ∷ [])
+  pub forced_behind : ltb x m ≡ true → (f : ℕ) {n e i : ℕ} {v w y z g r : List ℕ} → c + 1 + f ≡ c + 2 → n ≡ m → g ≡ 2 ∷ m ∷ 0 ∷ 0 ∷ [] → r ≡ 4 ∷ q ∷ k ∷ m ∷ [] → v ≡ put_words t at ((c + 1 + f) ∷ n ∷ s ∷ [])
+      → e ≡ at + heading + width * c → w ≡ put_words v e g → y ≡ w → i ≡ e + width → z ≡ put_words y i r
       → z ≡ cond (ltb x m) two one
-  forced_behind l _ f n v e w y i z =
-      rw (l, z, y, i, w, e, v, f, n, behind (put_words t at ((c + 2) ∷ m ∷ s ∷ [])) (at + heading + width * c) 2 m 0 0 (4 ∷ q ∷ k ∷ m ∷ []))
+  forced_behind l _ f n g r v e w y i z =
+      rw (l, z, y, i, w, e, v, f, n, g, r, behind (put_words t at ((c + 2) ∷ m ∷ s ∷ [])) (at + heading + width * c) 2 m 0 0 (4 ∷ q ∷ k ∷ m ∷ []))
 
-  pub not_forced : ltb x m ≡ false → (f : ℕ) {n e i : ℕ} {v y z : List ℕ} → c + 1 + f ≡ c + 1 → n ≡ x → v ≡ put_words t at ((c + 1 + f) ∷ n ∷ s ∷ [])
-      → e ≡ at + heading + width * c → y ≡ v → i ≡ e → z ≡ put_words y i (4 ∷ q ∷ k ∷ m ∷ [])
+  pub not_forced : ltb x m ≡ false → (f : ℕ) {n e i : ℕ} {v y z r : List ℕ} → c + 1 + f ≡ c + 1 → n ≡ x → r ≡ 4 ∷ q ∷ k ∷ m ∷ [] → v ≡ put_words t at ((c + 1 + f) ∷ n ∷ s ∷ [])
+      → e ≡ at + heading + width * c → y ≡ v → i ≡ e → z ≡ put_words y i r
       → z ≡ cond (ltb x m) two one
-  not_forced l _ f n v e y i z = rw (l, z, y, i, v, e, f, n)
+  not_forced l _ f n r v e y i z = rw (l, z, y, i, v, e, f, n, r)

@@ -4,7 +4,6 @@
 ghost use Rattle.std.specs.Prelude.{◌≡◌, cond, ◌+◌, ◌*◌, ◌≤◌, length};
 ghost use Rattle.xdr.specs.Words.{put_words};
 ghost use Rattle.rules.specs.Table.{heading, width};
-ghost use Rattle.events.specs.Events.{words_of};
 ghost use Rattle.store.specs.Added.{with_record, forces, with_receipt};
 
 use events::Event;
@@ -18,20 +17,20 @@ fn end(section: Section) -> usize
 }
 
 // Stores a record's words from word i on.
-fn put(t: &mut [u8], i: usize, event: Event)
+fn put(t: &mut [u8], i: usize, words: [u32; 4])
     requires { 4 * (i + width) ≤ length t.old }
-    ensures { t.new ≡ put_words t.old i (words_of event) }
+    ensures { t.new ≡ put_words t.old i words }
 {
-    xdr::put_all::<4>(t, i, event.into());
+    xdr::put_all(t, i, words);
 }
 
-// One record; x and s are the section's number and count of sends after it.
-pub fn add_record(t: &mut [u8], section: Section, x: u32, s: u32, event: Event)
+// One record, by its words; x and s are the section's number and count of sends after it.
+pub fn add_record(t: &mut [u8], section: Section, x: u32, s: u32, words: [u32; 4])
     requires { 4 * (section.at + heading + width * (section.count + 1)) ≤ length t.old }
-    ensures { t.new ≡ with_record t.old section x s event }
+    ensures { t.new ≡ with_record t.old section x s words }
 {
     xdr::put_all(t, section.at, [section.count + 1, x, s]);
-    put(t, end(section), event);
+    put(t, end(section), words);
 }
 
 // The receipt of (q, k), which carries m, behind a checkpoint where it forces one; returns whether it does.
@@ -45,7 +44,7 @@ pub fn add_receipt(t: &mut [u8], section: Section, m: u32, q: u32, k: u32) -> bo
     xdr::put_all(t, section.at, [count, section.number.max(m), section.sends]);
     let mut behind = end(section);
     if forces {
-        put(t, behind, Event::Forced { number: m });
+        put(t, behind, Event::Forced { number: m }.into());
         behind += shape::WIDTH;
     }
     let receipt = Event::Received {
@@ -53,6 +52,6 @@ pub fn add_receipt(t: &mut [u8], section: Section, m: u32, q: u32, k: u32) -> bo
         k,
         carried: m,
     };
-    put(t, behind, receipt);
+    put(t, behind, receipt.into());
     forces
 }
