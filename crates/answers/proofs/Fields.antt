@@ -4,6 +4,7 @@ use mathlib.Core.Bool.{Bool, true, false, cond}
 use mathlib.Core.List.{List, [], ◌∷◌, ◌++◌}
 use Prim.Native.Nat.{ℕ, suc, ◌+◌, ◌-◌, ◌*◌, ◌≤◌, ◌<◌}
 use native.Mathlib.Omega.{arith}
+use native.Mathlib.Nat.{not-suc-le-zero}
 use native.Mathlib.Numerals.{add-one}
 use lib.Dec.{ltb}
 use lib.ListN.{length, drop, drop_of_length-le}
@@ -13,7 +14,7 @@ use Rattle.xdr.specs.Words.{word}
 use Rattle.xdr.proofs.Words.{words_length, words_get}
 use Rattle.rules.specs.Text.{decimal, further_fields}
 use Rattle.decimal.specs.Output.{Page, Writes}
-use Rattle.decimal.proofs.Texts.{Writing, writing_on}
+use Rattle.decimal.proofs.Texts.{Writing, writing_on, writes_both}
 use Rattle.std.specs.Prelude.{Result, Ok, Err}
 use Rattle.std.specs.Result.{result_unwrap_or}
 use Rattle.answers.specs.declared.Refused.{Refused}
@@ -39,6 +40,16 @@ field_next count area i m false t le =
     let one : length vs ≤ i = omega (arith, ge, words_length count area le) in
     let two : length vs ≤ i + 1 = omega (arith, one) in
     ap (further_fields (suc m)) (drop_of_length-le vs one) ∙ ap (λ (l : List ℕ). 44 ∷ further_fields m l) (sym (drop_of_length-le vs two))
+
+-- a field that shows a word
+pub field_shown : {a b c : Page} (count i : ℕ) (area : List ℕ) {v : ℕ} → i < count → v ≡ word area i → Writes a (44 ∷ []) 1 b
+    → Writes b (decimal v) 10 c → Writes a (field_or count area i) 11 c
+field_shown {a} {b} {c} count i area lt e comma number =
+    subst (λ (s : List ℕ). Writes a s 11 c) (ap (λ (w : ℕ). 44 ∷ decimal w) e ∙ sym (either (ltb i count) refl)) (writes_both (omega arith) comma number)
+  where
+    either : (t : Bool) → ltb i count ≡ t → field_or count area i ≡ 44 ∷ decimal (word area i)
+    either true h = ap (λ (t : Bool). 44 ∷ cond t (decimal (word area i)) []) h
+    either false h = absurd (not-suc-le-zero {n = 0} (omega (arith, ltb-false i count h, lt)))
 
 pub written_on : (before out out₁ : Page) (count : ℕ) (area : List ℕ) (k i : ℕ) → Written before out (shown count area) k i → i < k
     → 4 * count ≤ length area → Writes out (field_or count area i) 11 out₁ → Written before out₁ (shown count area) k (i + 1)

@@ -52,6 +52,10 @@ pub record Shows (o : Outcome) (r : Result ℕ Refused) (table : List ℕ) (area
 abbrev pub field_or : ℕ → List ℕ → ℕ → List ℕ
 field_or count area i = 44 ∷ cond (ltb i count) (decimal (word area i)) []
 
--- the line of n + 3 fields that tells r and the words of the area
+-- the line of n + 3 fields that shows a number and the first `count` words of the area
+abbrev pub shown_line : ℕ → ℕ → ℕ → List ℕ → List ℕ
+shown_line n v count area = decimal v ++ further_fields (n + 2) (shown count area) ++ line_end
+
+-- the line that tells r and the words of the area
 abbrev pub told_line : ℕ → Result ℕ Refused → List ℕ → List ℕ
-told_line n r area = decimal (returned r) ++ further_fields (n + 2) (shown (count_of r) area) ++ line_end
+told_line n r area = shown_line n (returned r) (count_of r) area

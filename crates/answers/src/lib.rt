@@ -1,11 +1,10 @@
 // The lines that the text program writes (document 01).
 #![tactic(auto)]
 
-ghost use Rattle.std.specs.Prelude.{◌≡◌, ◌+◌, ◌*◌, ◌≤◌, length};
+ghost use Rattle.std.specs.Prelude.{◌≡◌, ◌+◌, ◌*◌, ◌≤◌, length, Ok, MatchResult, IsErrAnd};
 ghost use Rattle.rules.specs.Text.{further_fields, line_end, alone_line};
-ghost use Rattle.decimal.specs.Output.{Writes};
-ghost use Rattle.refusals.specs.Refusals.{returned as refusal_of};
-ghost use Rattle.answers.specs.Shows.{answer_room, field_or, shown, number_of, returned, count_of, Told, told_line};
+ghost use Rattle.decimal.specs.Output.{page_of, Writes};
+ghost use Rattle.answers.specs.Shows.{answer_room, field_or, shown, number_of, returned, count_of, shown_line, told_line};
 
 use decimal::Output;
 use fields::Unreadable;
@@ -61,9 +60,10 @@ impl From<Refused> for u32 {
     }
 }
 
-// What a call is told by: `count` words, or none where it was refused.
-pub fn told(outcome: Result<(), Refusal>, count: usize) -> Result<usize, Refused>
-    ensures { Told (refusal_of outcome) count result }
+// What a call is told by: `count` words, or why there are none. What stands for that is the caller's, so that any number can: the program
+// tells a refusal by its `Refused`.
+pub fn told<E: Drop, F: From<E> + Drop>(outcome: Result<(), E>, count: usize) -> Result<usize, F>
+    ensures { MatchResult outcome (λ _. result ≡ Ok count) (λ e. IsErrAnd result (F.from_gives e)) }
 {
     outcome?;
     Ok(count)
@@ -82,8 +82,9 @@ fn returned(told: Result<usize, Refused>) -> u32
 // Writes a comma and field i of the answer: word i of the area where i is below `count`, else nothing. The area comes whole, since its words
 // are counted by what is told.
 fn put_field(out: &mut Output, area: &[u8], count: usize, i: usize)
-    requires { (11 ≤ length out.old.rest) × (4 * count ≤ length area.now) }
-    ensures { Writes out.old (field_or count area.now i) 11 out.new }
+    requires { (11 ≤ length (page_of out.old).rest) × (4 * count ≤ length area.now) }
+    ensures text { Writes (page_of out.old) (field_or count area.now i) 11 (page_of out.new) }
+    ensures same_reference { out.new.bytes.ghost_name ≡ out.old.bytes.ghost_name }
 {
     out.push(b',');
     if i < count {
@@ -93,8 +94,9 @@ fn put_field(out: &mut Output, area: &[u8], count: usize, i: usize)
 
 // Writes k fields, each after a comma, the first of them the first `count` words of the area.
 fn put_fields(out: &mut Output, area: &[u8], count: usize, k: usize)
-    requires { (k ≤ 10) × (110 ≤ length out.old.rest) × (4 * count ≤ length area.now) }
-    ensures { Writes out.old (further_fields k (shown count area.now)) 110 out.new }
+    requires { (k ≤ 10) × (110 ≤ length (page_of out.old).rest) × (4 * count ≤ length area.now) }
+    ensures text { Writes (page_of out.old) (further_fields k (shown count area.now)) 110 (page_of out.new) }
+    ensures same_reference { out.new.bytes.ghost_name ≡ out.old.bytes.ghost_name }
 {
     for i in 0..k {
         put_field(out, area, count, i);
@@ -103,27 +105,39 @@ fn put_fields(out: &mut Output, area: &[u8], count: usize, k: usize)
 
 // Writes CR LF.
 fn put_end(out: &mut Output)
-    requires { 2 ≤ length out.old.rest }
-    ensures { Writes out.old line_end 2 out.new }
+    requires { 2 ≤ length (page_of out.old).rest }
+    ensures text { Writes (page_of out.old) line_end 2 (page_of out.new) }
+    ensures same_reference { out.new.bytes.ghost_name ≡ out.old.bytes.ghost_name }
 {
     out.push(b'\r');
     out.push(b'\n');
 }
 
-// Writes the line that tells what a line's call returned, on a table of n processes: n + 3 fields, the number returned, then the words.
-pub fn put_answer(out: &mut Output, n: usize, told: Result<usize, Refused>, area: &[u8])
-    requires { (n ≤ 8) × (answer_room ≤ length out.old.rest) × (4 * count_of told ≤ length area.now) }
-    ensures { Writes out.old (told_line n told area.now) answer_room out.new }
+// Writes a line of n + 3 fields: the number that a call returned, then the first `count` words of its area.
+pub fn put_answer(out: &mut Output, n: usize, returned: u32, count: usize, area: &[u8])
+    requires { (n ≤ 8) × (answer_room ≤ length (page_of out.old).rest) × (4 * count ≤ length area.now) }
+    ensures text { Writes (page_of out.old) (shown_line n returned count area.now) answer_room (page_of out.new) }
+    ensures same_reference { out.new.bytes.ghost_name ≡ out.old.bytes.ghost_name }
 {
-    decimal::put(out, returned(told));
-    put_fields(out, area, told.unwrap_or(0), n + 2);
+    decimal::put(out, returned);
+    put_fields(out, area, count, n + 2);
     put_end(out);
+}
+
+// Writes the line that tells what a line's call returned, on a table of n processes.
+pub fn put_told(out: &mut Output, n: usize, told: Result<usize, Refused>, area: &[u8])
+    requires { (n ≤ 8) × (answer_room ≤ length (page_of out.old).rest) × (4 * count_of told ≤ length area.now) }
+    ensures text { Writes (page_of out.old) (told_line n told area.now) answer_room (page_of out.new) }
+    ensures same_reference { out.new.bytes.ghost_name ≡ out.old.bytes.ghost_name }
+{
+    put_answer(out, n, returned(told), told.unwrap_or(0), area);
 }
 
 // Writes a line of the one field v.
 pub fn put_alone(out: &mut Output, v: u32)
-    requires { answer_room ≤ length out.old.rest }
-    ensures { Writes out.old (alone_line v) answer_room out.new }
+    requires { answer_room ≤ length (page_of out.old).rest }
+    ensures text { Writes (page_of out.old) (alone_line v) answer_room (page_of out.new) }
+    ensures same_reference { out.new.bytes.ghost_name ≡ out.old.bytes.ghost_name }
 {
     decimal::put(out, v);
     put_end(out);

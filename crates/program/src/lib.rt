@@ -3,6 +3,7 @@
 
 ghost use Rattle.std.specs.Prelude.{◌≡◌, false, ◌+◌, ◌*◌, ◌≤◌, length};
 ghost use Rattle.std.specs.ControlFlow.{ForContinue};
+ghost use Rattle.decimal.specs.Output.{page_of};
 ghost use Rattle.answers.specs.Shows.{answer_room};
 ghost use Rattle.replies.specs.Replies.{is_ended};
 
@@ -24,8 +25,8 @@ fn take_turn<R: Read, W: Write>(
     from: &mut R,
     to: &mut W,
 ) -> ControlFlow<()>
-    requires { 1024 * answer_room ≤ length out.old.written + length out.old.rest }
-    ensures room { length out.new.written + length out.new.rest ≡ length out.old.written + length out.old.rest }
+    requires { 1024 * answer_room ≤ length (page_of out.old).written + length (page_of out.old).rest }
+    ensures room { length (page_of out.new).written + length (page_of out.new).rest ≡ length (page_of out.old).written + length (page_of out.old).rest }
     ensures on { ForContinue result (λ _. is_ended s.new.program ≡ false) }
 {
     let mut chunk = [0u8; CHUNK];

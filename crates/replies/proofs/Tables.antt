@@ -6,14 +6,15 @@ use Prim.Native.Nat.{ℕ, ◌≤◌}
 use native.Mathlib.Omega.{arith}
 use native.Mathlib.Nat.{le_refl, add-le-add, mul-le-mul}
 use lib.Dec.{leb}
-use lib.ListN.{length, take, drop, replicate, length-replicate}
+use lib.ListN.{length, take, drop, replicate, length-replicate, length-append}
 use lib.Seq.{take_at, length-take-le}
+use Rattle.std.proofs.lemmas.List.{drop_at, drop-replicate}
 use borrow.Author.Tests.{leb-true}
 use Rattle.xdr.specs.Words.{put_words}
 use Rattle.rules.specs.Table.{in_range, size}
 use Rattle.rules.specs.Calls.{Outcome, outcome, fresh_on}
 use Rattle.rules.specs.Text as text
-use Rattle.replies.specs.Replies.{table_room}
+use Rattle.replies.specs.Room.{table_room, unused}
 use Rattle.layout.proofs.Rows.{fresh_done}
 
 -- ---- a table in its room
@@ -43,6 +44,14 @@ lent_zeros n e m h eq =
     let le : m ≤ length zeros = omega (arith, room_enough n e h eq, length-replicate {A = ℕ} table_room 0) in
     (le, length-take-le m zeros le ∙ eq)
 
+-- a table of m bytes that is back in its room: the bytes behind it stay 0
+pub placed : (n e m : ℕ) (t : List ℕ) → text.in_program_range n e ≡ true → m ≡ size n e → length t ≡ length (take m zeros)
+    → (n ≤ 8) × (m ≤ length (t ++ drop m zeros)) × (drop m (t ++ drop m zeros) ≡ unused m)
+placed n e m t h eq lent =
+    let le = (lent_zeros n e m h eq).0 in
+    let all : length t ≡ m = lent ∙ length-take-le m zeros le in
+    ((in_range_lem n e h).1, omega (arith, all, length-append t (drop m zeros)), drop_at t (drop m zeros) m all ∙ drop-replicate m table_room 0)
+
 -- a fresh call on a table of the exact length, whatever its bytes
 pub fresh_outcome_lem : (t : List ℕ) (n e : ℕ) → text.in_program_range n e ≡ true → length t ≡ size n e → fresh_on t n e ≡ text.fresh_outcome n e
 fresh_outcome_lem t n e h l =
@@ -63,3 +72,11 @@ pub fresh_held : (n e m : ℕ) (t room : List ℕ) → outcome 0 t [] ≡ text.f
 fresh_held n e m t room done lent le =
     ap (λ (u : List ℕ). text.reply (text.answer_line n (outcome 0 u [])) (text.running n u)) (take_at t (drop m room) m (lent ∙ length-take-le m room le))
     ∙ ap (λ (o : Outcome). text.reply (text.answer_line n o) (text.running n o.table)) done
+
+-- a later line's table, of m bytes, is back in its room
+pub held_on : (n m : ℕ) (t room : List ℕ) (h : ℕ × List ℕ) (r : text.Reading) → (n, take m room) ≡ h → t ≡ (text.ran n (take m room) r).table
+    → length t ≡ length (take m room) → m ≤ length room
+    → text.running n (take m (t ++ drop m room)) ≡ text.running h.0 (text.ran h.0 h.1 r).table
+held_on n m t room h r is left lent le =
+    ap (text.running n) (take_at t (drop m room) m (lent ∙ length-take-le m room le) ∙ left)
+    ∙ ap (λ (g : ℕ × List ℕ). text.running g.0 (text.ran g.0 g.1 r).table) is

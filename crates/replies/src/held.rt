@@ -1,6 +1,6 @@
 ghost use Rattle.std.specs.Prelude.{◌≡◌, true, false, List, ℕ, ◌≤◌, length, take, MatchOption};
 ghost use Rattle.rules.specs.Text.{in_program_range, call, fresh, opened, replied};
-ghost use Rattle.decimal.specs.Output.{Writes};
+ghost use Rattle.decimal.specs.Output.{page_of, Writes};
 ghost use Rattle.answers.specs.Shows.{answer_room};
 ghost use Rattle.reading.specs.Meanings.{reading_of};
 ghost use Rattle.replies.specs.Opened.{running_of, opened_as};
@@ -25,8 +25,9 @@ fn in_program_range(n: u32, e: u32) -> Option<Dims>
     None
 }
 
-// A table of n processes, which lies in the first bytes of its room. A clause sees n and the table. Fixed memory: there is no heap.
-#[derive(Drop)]
+// A table of n processes, which lies in the first bytes of its room. A clause sees n and the table. Fixed memory: there is no heap. The bytes
+// behind the table stay 0, so that n and the table say all of it, as a copy asks.
+#[derive(Clone, Copy, Drop)]
 pub(crate) struct Held {
     n: usize,
     size: usize,
@@ -34,11 +35,23 @@ pub(crate) struct Held {
 }
 
 impl Model for Held {
+    ghost use Rattle.std.specs.Prelude.{◌≡◌, List, ◌++◌, ℕ, ◌≤◌, length, take, drop};
+    ghost use Rattle.std.proofs.Common.{length-take-le};
+    ghost use Rattle.replies.specs.Room.{unused, room_back};
+
     ghost Value = { ℕ × List ℕ };
 
     ghost view = { λ h. (h.n, take h.size h.room) };
 
-    ghost invariant = { λ h. (h.n ≤ 8) × (h.size ≤ length h.room) };
+    ghost invariant = { λ h. (h.n ≤ 8) × (h.size ≤ length h.room) × (drop h.size h.room ≡ unused h.size) };
+
+    ghost inverse = { λ v. record { n = v.0; size = length v.1; room = v.1 ++ unused (length v.1) } };
+
+    ghost inverse_ok = { λ h fits i. record {
+      n = h.n;
+      size = length-take-le h.size h.room fits.1 i;
+      room = room_back h.room h.size fits.1 fits.2 i;
+    } };
 }
 
 impl Held {
@@ -65,12 +78,13 @@ impl Held {
 
     // Answers a line.
     pub(crate) fn answer_line(&mut self, said: Result<Call, Unreadable>, out: &mut Output)
-        requires { answer_room ≤ length out.old.rest }
-        ensures text { Writes out.old (replied (running_of self.old) (reading_of said)).text answer_room out.new }
+        requires { answer_room ≤ length (page_of out.old).rest }
+        ensures text { Writes (page_of out.old) (replied (running_of self.old) (reading_of said)).text answer_room (page_of out.new) }
+        ensures same_reference { out.new.bytes.ghost_name ≡ out.old.bytes.ghost_name }
         ensures stage { running_of self.new ≡ (replied (running_of self.old) (reading_of said)).stage }
     {
         let mut area = [0; AREA_ROOM];
         let told = calls::run(said, self.n, &mut self.room[..self.size], &mut area);
-        answers::put_answer(out, self.n, told, &area);
+        answers::put_told(out, self.n, told, &area);
     }
 }

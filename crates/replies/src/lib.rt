@@ -2,11 +2,11 @@
 #![tactic(auto)]
 
 ghost use Rattle.std.specs.Prelude.{◌≡◌, ◌≤◌, length};
-ghost use Rattle.rules.specs.Text.{Stage, waiting, opened, replied, read_line};
-ghost use Rattle.decimal.specs.Output.{Writes};
+ghost use Rattle.rules.specs.Text.{waiting, opened, replied, read_line};
+ghost use Rattle.decimal.specs.Output.{page_of, Writes};
 ghost use Rattle.answers.specs.Shows.{answer_room};
 ghost use Rattle.reading.specs.Meanings.{reading_of};
-ghost use Rattle.replies.specs.Replies.{stage_of, is_ended};
+ghost use Rattle.replies.specs.Replies.{is_ended};
 ghost use Rattle.replies.specs.Opened.{opened_as};
 
 use answers::Refused;
@@ -22,7 +22,7 @@ mod held;
 pub const TABLE_ROOM: usize = 8 + 4 * 8 * (shape::HEADING + shape::WIDTH * 256);
 
 // Before the first line, with a table, or at the end.
-#[derive(Drop)]
+#[derive(Clone, Copy, Drop)]
 enum State {
     Waiting,
     Running(Held),
@@ -30,15 +30,22 @@ enum State {
 }
 
 // The program. A clause sees the stage that document 01 names.
-#[derive(Drop)]
+#[derive(Clone, Copy, Drop)]
 pub struct Program {
     state: State,
 }
 
 impl Model for Program {
+    ghost use Rattle.rules.specs.Text.{Stage};
+    ghost use Rattle.replies.specs.Replies.{stage_of, state_of, state_back};
+
     ghost Value = { Stage };
 
     ghost view = { λ p. stage_of p.state };
+
+    ghost inverse = { λ g. record { state = state_of g } };
+
+    ghost inverse_ok = { λ p _ i. record { state = state_back p.state i } };
 }
 
 impl Program {
@@ -61,13 +68,14 @@ impl Program {
     // Answers the first line. Not inlined: every line would pay for the room on its stack.
     #[inline(never)]
     fn open(&mut self, said: Result<Call, Unreadable>, out: &mut Output)
-        requires { answer_room ≤ length out.old.rest }
-        ensures text { Writes out.old (opened (reading_of said)).text answer_room out.new }
+        requires { answer_room ≤ length (page_of out.old).rest }
+        ensures text { Writes (page_of out.old) (opened (reading_of said)).text answer_room (page_of out.new) }
+        ensures same_reference { out.new.bytes.ghost_name ≡ out.old.bytes.ghost_name }
         ensures stage { self.new ≡ (opened (reading_of said)).stage }
     {
         self.state = match open(said) {
             Ok(held) => {
-                answers::put_answer(out, held.n(), Ok(0), &[]);
+                answers::put_told(out, held.n(), Ok(0), &[]);
                 State::Running(held)
             }
             Err(refused) => {
@@ -79,8 +87,9 @@ impl Program {
 
     // Answers a line.
     pub fn answer_line(&mut self, line: &[u8], out: &mut Output)
-        requires { answer_room ≤ length out.old.rest }
-        ensures text { Writes out.old (replied self.old (read_line line.now)).text answer_room out.new }
+        requires { answer_room ≤ length (page_of out.old).rest }
+        ensures text { Writes (page_of out.old) (replied self.old (read_line line.now)).text answer_room (page_of out.new) }
+        ensures same_reference { out.new.bytes.ghost_name ≡ out.old.bytes.ghost_name }
         ensures stage { self.new ≡ (replied self.old (read_line line.now)).stage }
     {
         let said = reading::read_line(line);

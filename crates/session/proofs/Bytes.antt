@@ -7,13 +7,15 @@ use native.Mathlib.Omega.{arith}
 use native.Mathlib.Numerals.{add-one}
 use native.Mathlib.Nat.{not-suc-le-zero}
 use lib.Dec.{leb, eqb}
-use lib.ListN.{length, get_or, set, take, length-append}
-use lib.Seq.{take-take, take-suc-set, length-take-le, get_or_at, take_all}
+use lib.ListN.{length, get_or, set, take, drop, replicate, length-append, length-set}
+use lib.Seq.{take-take, take-suc-set, length-take-le, get_or_at, take_all, drop-drop}
+use Rattle.std.proofs.lemmas.List.{drop-set-lt, drop-replicate}
 use borrow.Author.Tests.{lt-leb, leb-true, leb-false}
 use Rattle.rules.specs.Text as text
 use Rattle.basics.proofs.Booleans.{skips}
 use Rattle.session.specs.declared.Session.{Session}
 use Rattle.decimal.specs.Output.{Page}
+use Rattle.session.specs.Line.{line_room, unused}
 use Rattle.session.specs.Session.{Took}
 
 -- lines of 66 bytes and more with the same last byte: neither is readable, and both end with the same byte
@@ -115,3 +117,18 @@ held_on l held i b len le e = rw (add-one i) (take-suc-set l i b (omega (arith, 
         let large : 65 < held = leb-false held 65 h in
         let last : i ≡ 65 = omega (arith, e, large) in
         ap (λ (j : ℕ). take j l) last ∙ sym (take-take 65 held l (omega (arith, large)))
+
+-- the bytes behind those stay 0, d bytes further on
+unused_from : (l : List ℕ) (held d : ℕ) → drop held l ≡ unused held → drop (held + d) l ≡ unused (held + d)
+unused_from l held d rest =
+    sym (drop-drop d held l) ∙ ap (drop d) rest ∙ drop-replicate d (line_room - held) 0 ∙ ap (λ (n : ℕ). replicate n 0) (omega arith)
+
+-- the room of a line that holds a byte more
+pub room_on : (l : List ℕ) (held i b : ℕ) → (held ≤ line_room) × (length l ≡ line_room) × (drop held l ≡ unused held) → i ≡ min held 65
+    → (i + 1 ≤ line_room) × (length (set l i b) ≡ line_room) × (drop (i + 1) (set l i b) ≡ unused (i + 1))
+room_on l held i b fits e =
+    let over : held + (i + 1 - held) ≡ i + 1 = omega (arith, e, fits.0) in (
+      omega (arith, e),
+      length-set l i b ∙ fits.1,
+      drop-set-lt (i + 1) l i b (omega arith) ∙ rw over at (unused_from l held (i + 1 - held) fits.2),
+    )

@@ -4,16 +4,17 @@
 ghost use Rattle.std.specs.Prelude.{◌≡◌, [], ◌∷◌, ◌≤◌, length};
 ghost use Rattle.rules.specs.Text.{waiting};
 ghost use Rattle.answers.specs.Shows.{answer_room};
+ghost use Rattle.decimal.specs.Output.{page_of};
 ghost use Rattle.session.specs.Session.{Took};
 
 use decimal::Output;
-pub use line::Line;
+pub use line::{LINE_ROOM, Line};
 use replies::Program;
 
 mod line;
 
 // The program, and the line that has not ended.
-#[derive(Drop)]
+#[derive(Clone, Copy, Drop)]
 pub struct Session {
     pub program: Program,
     pub line: Line,
@@ -32,8 +33,9 @@ impl Session {
 
     // Takes one byte of the input. It ends the line, which is then answered, or it is held.
     pub fn take_byte(&mut self, byte: u8, out: &mut Output)
-        requires { answer_room ≤ length out.old.rest }
-        ensures { Took self.old out.old (byte ∷ []) self.new out.new }
+        requires { answer_room ≤ length (page_of out.old).rest }
+        ensures took { Took self.old (page_of out.old) (byte ∷ []) self.new (page_of out.new) }
+        ensures same_reference { out.new.bytes.ghost_name ≡ out.old.bytes.ghost_name }
     {
         if self.line.ends(byte) {
             let line = self.line.bytes();

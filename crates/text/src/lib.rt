@@ -5,10 +5,11 @@
 
 ghost use Rattle.std.specs.Prelude.{◌≡◌, true, List, [], ℕ, ◌*◌, ◌≤◌, length};
 ghost use Rattle.rules.specs.Text.{text_output, waiting};
-ghost use Rattle.decimal.specs.Output.{Writes};
+ghost use Rattle.decimal.specs.Output.{page_of, Writes};
 ghost use Rattle.answers.specs.Shows.{answer_room};
 ghost use Rattle.replies.specs.Replies.{is_ended};
 ghost use Rattle.session.specs.Session.{owed_by, Took};
+ghost use Rattle.text.specs.Finished.{stage_after};
 
 use decimal::Output;
 use session::Session;
@@ -23,18 +24,22 @@ pub fn start() -> Session
 
 // Takes the next bytes of the input. `out` has room for an answer to every byte.
 pub fn feed(s: &mut Session, chunk: &[u8], out: &mut Output)
-    requires { answer_room * length chunk.now ≤ length out.old.rest }
-    ensures { Took s.old out.old chunk.now s.new out.new }
+    requires { answer_room * length chunk.now ≤ length (page_of out.old).rest }
+    ensures took { Took s.old (page_of out.old) chunk.now s.new (page_of out.new) }
+    ensures same_reference { out.new.bytes.ghost_name ≡ out.old.bytes.ghost_name }
 {
     for byte in chunk {
         s.take_byte(*byte, out);
     }
 }
 
-// Answers a last line that lacks its CR LF, if there is one.
+// Answers a last line that lacks its CR LF, if there is one. The line is still held then.
 pub fn finish(s: &mut Session, out: &mut Output)
-    requires { answer_room ≤ length out.old.rest }
-    ensures { Writes out.old (owed_by s.old []) answer_room out.new }
+    requires { answer_room ≤ length (page_of out.old).rest }
+    ensures text { Writes (page_of out.old) (owed_by s.old []) answer_room (page_of out.new) }
+    ensures same_reference { out.new.bytes.ghost_name ≡ out.old.bytes.ghost_name }
+    ensures line { s.new.line ≡ s.old.line }
+    ensures stage { s.new.program ≡ stage_after s.old.program s.old.line }
 {
     let line = s.line.bytes();
     if !line.is_empty() {

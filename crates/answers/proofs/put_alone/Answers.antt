@@ -1,0 +1,6 @@
+use native.Mathlib.Omega.{arith}
+use Rattle.decimal.proofs.Texts.{writes_both}
+use Rattle.answers.proofs.put_alone.Goals as goal
+
+pub returns-clause-text : goal.returns-clause-text
+returns-clause-text c = writes_both (omega arith) c.put.ensures.text c.put_end.ensures.text
