@@ -1,5 +1,5 @@
 -- What is noted of the messages in transit at a cut.
-use Rattle.std.specs.Prelude.{◌≡◌, Bool, cond, ◌&&◌, List, [], ◌∷◌, ◌++◌, ℕ, zero, suc, ◌+◌, ◌≤◌, ◌<◌, ltb, length, get_or, set, replicate}
+use Rattle.std.specs.Prelude.{◌≡◌, Bool, cond, ◌&&◌, List, [], ◌∷◌, ◌++◌, ℕ, zero, suc, ◌+◌, ◌≤◌, ◌<◌, leb, ltb, length, get_or, set, replicate}
 use Rattle.xdr.specs.Words.{words}
 use Rattle.rules.specs.Records.{State, sends, destination, has_receipt}
 use Rattle.rules.specs.Lines.{part}
@@ -95,6 +95,10 @@ pub record Noting : Type 0 where
   pub from : ℕ
   pub next : ℕ
 
--- process q is noted
+-- whether process q is noted
+abbrev pub has : Noting → ℕ → Bool
+has v q = leb v.from q && ltb q v.next
+
+-- it is
 abbrev pub Has : Noting → ℕ → Type 0
 Has v q = (v.from ≤ q) × (q < v.next)

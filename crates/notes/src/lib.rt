@@ -11,7 +11,7 @@ ghost use Rattle.std.specs.Prelude.{◌≡◌, cond, ◌+◌, ◌≤◌, ◌<◌
 ghost use Rattle.rules.specs.Records.{sends};
 ghost use Rattle.events.specs.Events.{held};
 ghost use Rattle.cuts.specs.Notes.{noted};
-ghost use Rattle.notes.specs.Noted.{HasRoom, none_from, grown, Noted, Has, sent_by, left_in, messages_of};
+ghost use Rattle.notes.specs.Noted.{HasRoom, none_from, grown, Noted, has, Has, sent_by, left_in, messages_of};
 
 pub use cut::Cut;
 use cuts::Span;
@@ -154,12 +154,19 @@ impl<'a> Notes<'a> {
         self.room.cut
     }
 
+    // Whether process q is noted.
+    pub fn has(&self, q: usize) -> bool
+        ensures { result ≡ has self.now q }
+    {
+        self.senders.from <= q && q < self.senders.next
+    }
+
     // Notes process q, unless it is noted, and others behind it.
     pub fn note(&mut self, q: usize)
         requires { q < self.old.cut.table.n }
         ensures { (self.new.cut ≡ self.old.cut) × Has self.new q }
     {
-        if q < self.senders.from || self.senders.next <= q {
+        if !self.has(q) {
             self.senders = self.room.note_transit(q);
         }
     }

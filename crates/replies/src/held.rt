@@ -85,6 +85,6 @@ impl Held {
     {
         let mut area = [0; AREA_ROOM];
         let told = calls::run(said, self.n, &mut self.room[..self.size], &mut area);
-        answers::put_told(out, self.n, told, &area);
+        answers::put_told(out, self.n, told, &area[..calls::area_length(said, self.n)]);
     }
 }

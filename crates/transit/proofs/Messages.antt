@@ -93,12 +93,12 @@ module _ (c : Cut) where
       let f = c.table.laid.4 in
       omega arith
 
-  -- with those that the next sender's notes leave
-  pub below_next : {q n : ℕ} → q < n → {d : Cut} → d ≡ c → n ≡ d.table.n → {e : Cut} → e ≡ c → (notes : List ℕ) → left_in q 0 notes ≡ messages_of e q
-      → (transit_below s cut (q + 1) ≡ transit_below s cut q ++ left_in q 0 notes)
-      × (length (transit_below s cut (q + 1)) ≡ length (transit_below s cut q) + length (left_in q 0 notes))
-      × (length (transit_below s cut q) + length (left_in q 0 notes) ≤ length (transit_at c))
-  below_next {q} {n} less x y z notes w =
+  -- with the next sender's
+  pub below_next : {q n : ℕ} → q < n → {d : Cut} → d ≡ c → n ≡ d.table.n → {e : Cut} → e ≡ c → {ms : List Message} → ms ≡ messages_of e q
+      → (transit_below s cut (q + 1) ≡ transit_below s cut q ++ ms)
+      × (length (transit_below s cut (q + 1)) ≡ length (transit_below s cut q) + length ms)
+      × (length (transit_below s cut q) + length ms ≤ length (transit_at c))
+  below_next {q} {n} less x y z w =
       let lt : q < c.table.n = (let b = ap (λ (d : Cut). d.table.n) x in omega arith) in
       let v = w ∙ ap (λ (d : Cut). messages_of d q) z in
       let i : suc q + (c.table.n - suc q) ≡ c.table.n = omega arith in

@@ -5,7 +5,7 @@ ghost use Rattle.std.specs.Prelude.{◌≡◌, ◌+◌, ◌*◌, ◌≤◌, ◌<
 ghost use Rattle.std.specs.List.{count_by};
 ghost use Rattle.xdr.specs.Words.{put_words};
 ghost use Rattle.rules.specs.Resend.{messages_words};
-ghost use Rattle.notes.specs.Noted.{is_left, left_in};
+ghost use Rattle.notes.specs.Noted.{is_left, left_in, messages_of};
 ghost use Rattle.transit.specs.Transit.{transit_at};
 
 use notes::Notes;
@@ -45,6 +45,18 @@ fn list_sender(area: &mut [u8], q: usize, notes: &[u8], others: usize) -> usize
     count
 }
 
+// Notes process q, unless it is noted, and writes its messages behind this many others; how many there are then.
+#[tactic(auto, using(crate::proofs::Messages::few_sent))]
+fn list_process(notes: &mut Notes, area: &mut [u8], q: usize, others: usize) -> usize
+    requires { (q < notes.old.cut.table.n) × (4 + 12 * (others + length (messages_of notes.old.cut q)) ≤ length area.old) }
+    ensures cut { notes.new.cut ≡ notes.old.cut }
+    ensures count { result ≡ others + length (messages_of notes.old.cut q) }
+    ensures text { area.new ≡ put_words area.old (1 + 3 * others) (messages_words (messages_of notes.old.cut q)) }
+{
+    notes.note(q);
+    list_sender(area, q, notes.of(q), others)
+}
+
 // Writes them; how many there are. It goes over the senders as `count` does, and no more: a function for both loops would be as long as they
 // are, since each does something else with a sender's notes.
 pub fn list(notes: &mut Notes, area: &mut [u8]) -> usize
@@ -53,8 +65,7 @@ pub fn list(notes: &mut Notes, area: &mut [u8]) -> usize
 {
     let mut count = 0;
     for q in 0..notes.cut().table.n {
-        notes.note(q);
-        count = list_sender(area, q, notes.of(q), count);
+        count = list_process(notes, area, q, count);
     }
     count
 }

@@ -8,21 +8,21 @@ use Rattle.calls.proofs.Calls.{ran_as, shows_called}
 use Rattle.answers.proofs.Called.{told_called}
 use Rattle.calls.proofs.run.Goals as goal
 
-pub returns-in-Receipt : goal.returns-in-Receipt
-returns-in-Receipt c = let a = c.args in
+pub returns-in-Receipt-clause-shows : goal.returns-in-Receipt-clause-shows
+returns-in-Receipt-clause-shows c = let a = c.args in
     let x = c.in-Receipt in
     shows_called (λ l. step_on a.table.now l x.p (receipt x.q x.k)) _ 4 16 _ _ a.area.now _
     c.receipt.ensures c.requires.1 (ran_as a.n a.table.now c.in_ok-said.was x.is) (told_called _ _ _ c.told-in-Receipt.ensures)
     (search rules) refl (omega arith)
 
-pub returns-in-Line : goal.returns-in-Line
-returns-in-Line c = let a = c.args in
+pub returns-in-Line-clause-shows : goal.returns-in-Line-clause-shows
+returns-in-Line-clause-shows c = let a = c.args in
     shows_called (λ l. line_on a.table.now l c.in-Line.number) _ a.n (4 * a.n) _ _ a.area.now _
     c.line.ensures c.requires.1 (ran_as a.n a.table.now c.in_ok-said.was c.in-Line.is) (told_called _ _ _ c.told-in-Line.ensures)
     (search rules) refl (omega (arith, c.requires.0))
 
-pub returns-in-Failed : goal.returns-in-Failed
-returns-in-Failed c = let a = c.args in
+pub returns-in-Failed-clause-shows : goal.returns-in-Failed-clause-shows
+returns-in-Failed-clause-shows c = let a = c.args in
     shows_called (λ l. failed_on a.table.now l c.in-Failed.mask) _ (a.n + 2) (4 * a.n + 8) _ _ a.area.now _
     c.failed.ensures c.requires.1 (ran_as a.n a.table.now c.in_ok-said.was c.in-Failed.is) (told_called _ _ _ c.told-in-Failed.ensures)
     (search rules) (omega arith) (omega (arith, c.requires.0))

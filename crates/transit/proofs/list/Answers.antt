@@ -4,22 +4,21 @@ use lib.ListN.{length}
 use Rattle.xdr.specs.Words.{put_words}
 use Rattle.xdr.proofs.Puts.{all_length}
 use Rattle.rules.specs.Resend.{transit_below, messages_words}
-use Rattle.notes.specs.Noted.{state_at, places, sent_by, left_in}
+use Rattle.notes.specs.Noted.{state_at, places, messages_of}
 use Rattle.transit.proofs.Numbers.{put_more}
-use Rattle.transit.proofs.Messages.{below_all, all_sends, few_sends, few_sent, below_next}
+use Rattle.transit.proofs.Messages.{below_all, all_sends, few_sends, below_next}
 use Rattle.transit.proofs.list.Goals as goal
 
 pub loop-q-init : goal.loop-q-init
 unfolding put_words
 loop-q-init c = (refl, refl, refl, refl)
 
-pub list_sender-count-requires : goal.list_sender-count-requires
-list_sender-count-requires c = let C = c.args.notes.now.cut in
+pub list_process-count-requires : goal.list_process-count-requires
+list_process-count-requires c = let C = c.args.notes.now.cut in
     let s = c.loop-q in
-    let same = c.note.ensures.0 ∙ s.invariant.0 in
-    let next = below_next C c.loop-q-test.true c.cut-q-end.ensures refl same c.of.result.now c.of.ensures.left in (
-      omega (arith, ap (λ d. d.table.n) c.cut-q-end.ensures, C.table.laid.3, c.loop-q-test.true),
-      omega (arith, c.of.ensures.many ∙ ap (λ d. sent_by d s.q) same, few_sent C s.q),
+    let same = s.invariant.0 in
+    let next = below_next C c.loop-q-test.true c.cut-q-end.ensures refl same refl in (
+      omega (arith, ap (λ d. d.table.n) same, ap (λ d. d.table.n) c.cut-q-end.ensures, c.loop-q-test.true),
       omega (arith, next.2, s.invariant.1, s.invariant.3, c.requires),
     )
 
@@ -27,14 +26,13 @@ pub loop-q-preserved : goal.loop-q-preserved
 loop-q-preserved c = let a = c.args in
     let C = a.notes.now.cut in
     let s = c.loop-q in
-    let same = c.note.ensures.0 ∙ s.invariant.0 in
-    let E = c.list_sender-count.ensures in
-    let next = below_next C c.loop-q-test.true c.cut-q-end.ensures refl same c.of.result.now c.of.ensures.left in
-    let more = put_more a.area.now 1 (transit_below (state_at C) (places C) s.q) (left_in s.q 0 c.of.result.now) (omega (arith, s.invariant.1)) s.invariant.2 E.1 in (
-      same,
-      omega (arith, next.1, s.invariant.1, E.0),
+    let E = c.list_process-count.ensures in
+    let next = below_next C c.loop-q-test.true c.cut-q-end.ensures refl s.invariant.0 refl in
+    let more = put_more a.area.now 1 (transit_below (state_at C) (places C) s.q) (messages_of s.notes.cut s.q) (omega (arith, s.invariant.1)) s.invariant.2 E.text in (
+      E.cut ∙ s.invariant.0,
+      omega (arith, next.1, s.invariant.1, E.count),
       more ∙ ap (λ ms. put_words a.area.now 1 (messages_words ms)) (sym next.0),
-      ap length E.1 ∙ all_length s.area _ _ ∙ s.invariant.3,
+      ap length E.text ∙ all_length s.area _ _ ∙ s.invariant.3,
     )
 
 pub returns : goal.returns
