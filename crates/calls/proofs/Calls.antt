@@ -17,10 +17,15 @@ use Rattle.reading.specs.declared.Call.{Call}
 use Rattle.reading.specs.Meanings.{reading_of}
 use Rattle.answers.specs.declared.Refused.{Refused}
 use Rattle.answers.specs.Shows.{Shows, Told, area_room, shown, count_of}
+use Rattle.calls.specs.Areas.{area_of}
 
 -- the outcome of a line whose case of the enum is known
 pub ran_as : (n : ℕ) (t : List ℕ) {s : Result Call Unreadable} {x y : Call} → s ≡ Ok x → x ≡ y → ran n t (reading_of (Ok y)) ≡ ran n t (reading_of s)
 ran_as n t e f = ap (λ (z : Result Call Unreadable). ran n t (reading_of z)) (sym (e ∙ ap Ok f))
+
+-- and the length of its area
+pub area_as : (n : ℕ) {m : ℕ} {s : Result Call Unreadable} {x y : Call} → m ≡ area_of n (reading_of s) → s ≡ Ok x → x ≡ y → m ≡ area_of n (reading_of (Ok y))
+area_as n a e f = a ∙ ap (λ (z : Result Call Unreadable). area_of n (reading_of z)) (e ∙ ap Ok f)
 
 take_zeros : (m k : ℕ) → m ≤ k → take m (replicate {A = ℕ} k 0) ≡ replicate m 0
 take_zeros zero k le = refl
@@ -38,14 +43,14 @@ count_within : (b : Bool) (k : ℕ) → 4 * cond b k 0 ≤ 4 * k
 count_within true k = omega arith
 count_within false k = omega arith
 
--- F a is the outcome of the call with the area a; it was lent the first m bytes of `area`
-pub shows_called : (F : List ℕ → Outcome) {o : Outcome} (r k m : ℕ) (t a area : List ℕ) (res : Result ℕ Refused) → outcome r t a ≡ F (take m area)
-    → area ≡ replicate area_room 0 → F (replicate m 0) ≡ o → Told r k res → length a ≡ length (take m area) → m ≡ 4 * k → m ≤ area_room
+-- F a is the outcome of the call with the area a; it was lent the first m bytes of `area`, b of them
+pub shows_called : (F : List ℕ → Outcome) {o : Outcome} (r k b : ℕ) {m : ℕ} (t a area : List ℕ) (res : Result ℕ Refused) → outcome r t a ≡ F (take m area)
+    → area ≡ replicate area_room 0 → F (replicate b 0) ≡ o → Told r k res → length a ≡ length (take m area) → m ≡ b → b ≡ 4 * k → b ≤ area_room
     → Shows o res t (a ++ drop m area)
-shows_called F {o} r k m t a area res e zeros f told len words small =
-    let lent : take m area ≡ replicate m 0 = ap (take m) zeros ∙ take_zeros m area_room small in
+shows_called F {o} r k b {m} t a area res e zeros f told len is words small =
+    let lent : take m area ≡ replicate b 0 = ap (take m) zeros ∙ take_zeros m area_room (omega arith) ∙ ap (λ (l : ℕ). replicate {A = ℕ} l 0) is in
     let whole : outcome r t a ≡ o = e ∙ ap F lent ∙ f in
-    let size : length a ≡ 4 * k = len ∙ ap length lent ∙ length-replicate {A = ℕ} m 0 ∙ words in
+    let size : length a ≡ 4 * k = len ∙ ap length lent ∙ length-replicate {A = ℕ} b 0 ∙ words in
     let fit : 4 * count_of res ≤ 4 * k = subst (λ (c : ℕ). 4 * c ≤ 4 * k) (sym told.1) (count_within (eqb r 0) k) in
     record {
       number = told.0 ∙ ap (λ (x : Outcome). x.returned) whole;

@@ -38,15 +38,13 @@ pub fn run(
     ensures shows { Shows (ran_of n table.old (reading_of said)) result table.new area.new }
     ensures within { 4 * count_of result ≤ area_of n (reading_of said) }
 {
+    let area = &mut area[..area_length(said, n)];
     match said? {
         Call::Fresh { .. } => Err(Refused::Line),
-        Call::Checkpoint { p } => told(engine::ckpt_checkpoint(table, &mut area[..4], p), 1),
-        Call::Send { p, q } => told(engine::ckpt_send(table, &mut area[..8], p, q), 2),
-        Call::Receipt { p, q, k } => told(engine::ckpt_receipt(table, &mut area[..16], p, q, k), 4),
-        Call::Line { number } => told(engine::ckpt_line(table, &mut area[..4 * n], number), n),
-        Call::Failed { mask } => told(
-            engine::ckpt_failed(table, &mut area[..4 * n + 8], mask),
-            n + 2,
-        ),
+        Call::Checkpoint { p } => told(engine::ckpt_checkpoint(table, area, p), 1),
+        Call::Send { p, q } => told(engine::ckpt_send(table, area, p, q), 2),
+        Call::Receipt { p, q, k } => told(engine::ckpt_receipt(table, area, p, q, k), 4),
+        Call::Line { number } => told(engine::ckpt_line(table, area, number), n),
+        Call::Failed { mask } => told(engine::ckpt_failed(table, area, mask), n + 2),
     }
 }
