@@ -85,6 +85,7 @@ impl Held {
     {
         let mut area = [0; AREA_ROOM];
         let told = calls::run(said, self.n, &mut self.room[..self.size], &mut area);
+        // The call's own area, not the whole room: no line can then show more words than its call has room for.
         answers::put_told(out, self.n, told, &area[..calls::area_length(said, self.n)]);
     }
 }
