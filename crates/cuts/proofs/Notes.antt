@@ -11,7 +11,8 @@ use lib.ListN.{length, get_or, set, length-set}
 use lib.Seq.{get_or-set_same, get_or-set_other, set-get_or}
 use Rattle.rules.specs.Records.{Event, basic, forced, sent, received, History, sends, destination, has_receipt}
 use Rattle.tables.proofs.Laid.{Law, Legal, sends_length}
-use Rattle.cuts.specs.Notes.{note_of, noted, span_of, place_of, Inside, is_receipt, struck}
+use Rattle.cuts.specs.Notes.{note_of, noted, span_of, place_in, place_of, Inside, struck_once, struck, is_receipt, struck_by_place}
+use Rattle.std.specs.Prelude.{Option, Some, None}
 use Rattle.rules.specs.Table.{event_at}
 use Rattle.tables.proofs.Scans.{event}
 use Rattle.cuts.specs.declared.Span.{Span}
@@ -71,7 +72,7 @@ module _ (from : ℕ) (to : List ℕ) where
           let ne : k ≢ suc (sends h) = (λ s. z (omega arith)) in
           noted_there (sent q) h k z ∙ r (omega arith) ∙ (rw (ne_eqb k (suc (sends h)) ne))
 
--- ---- receipts struck
+-- ---- receipts struck by their places
 
 -- every place at which a receipt looks is in the list
 pub place_inside : (spans : List Span) (len q k : ℕ) → Inside spans len → place_of (span_of spans q) k < len
@@ -90,9 +91,9 @@ place_inside spans len q k inside = go (test (leb k c))
 -- the next record, whose words start at word i
 pub strike_next : (spans : List Span) (p : ℕ) (u : List ℕ) (w : ℕ → ℕ) (i : ℕ) {r : Bool} {x v : ℕ} → r ≡ is_receipt (event_at w i)
     → x ≡ place_of (span_of spans (w (i + 1) % 16)) (w (i + 2)) → v ≡ cond (r && eqb (get_or u x 0) p) 16 (get_or u x 0)
-    → set u x v ≡ struck spans p (event_at w i ∷ []) u
+    → set u x v ≡ struck_by_place spans p (event_at w i ∷ []) u
 strike_next spans p u w i {r} {x} {v} k n e =
-    rw (event (λ (f : Event). struck spans p (f ∷ []) u) w i refl, ← n, e, k, event is_receipt w i refl) (go (eqb (w i) 4) (eqb (w i) 3))
+    rw (event (λ (f : Event). struck_by_place spans p (f ∷ []) u) w i refl, ← n, e, k, event is_receipt w i refl) (go (eqb (w i) 4) (eqb (w i) 3))
   where
     go : (f g : Bool)
         → set u x (cond (cond f true (cond g false false) && eqb (get_or u x 0) p) 16 (get_or u x 0))
@@ -102,22 +103,22 @@ strike_next spans p u w i {r} {x} {v} k n e =
     go false false = set-get_or u x 0
 
 module _ (spans : List Span) (p : ℕ) (to : List ℕ) where
-  pub struck_length : (h : History) → length (struck spans p h to) ≡ length to
-  struck_length [] = refl
-  struck_length (basic m ∷ h) = struck_length h
-  struck_length (forced m ∷ h) = struck_length h
-  struck_length (sent q ∷ h) = struck_length h
-  struck_length (received q k c ∷ h) =
-      let u = struck spans p h to in
+  pub by_place_length : (h : History) → length (struck_by_place spans p h to) ≡ length to
+  by_place_length [] = refl
+  by_place_length (basic m ∷ h) = by_place_length h
+  by_place_length (forced m ∷ h) = by_place_length h
+  by_place_length (sent q ∷ h) = by_place_length h
+  by_place_length (received q k c ∷ h) =
+      let u = struck_by_place spans p h to in
       let i = place_of (span_of spans (q % 16)) k in
-      length-set u i (cond (eqb (get_or u i 0) p) 16 (get_or u i 0)) ∙ struck_length h
+      length-set u i (cond (eqb (get_or u i 0) p) 16 (get_or u i 0)) ∙ by_place_length h
 
   -- one record more
-  pub struck_more : (e : Event) (h : History) → struck spans p (e ∷ []) (struck spans p h to) ≡ struck spans p (e ∷ h) to
-  struck_more (basic m) h = refl
-  struck_more (forced m) h = refl
-  struck_more (sent q) h = refl
-  struck_more (received q k c) h = refl
+  pub by_place_more : (e : Event) (h : History) → struck_by_place spans p (e ∷ []) (struck_by_place spans p h to) ≡ struck_by_place spans p (e ∷ h) to
+  by_place_more (basic m) h = refl
+  by_place_more (forced m) h = refl
+  by_place_more (sent q) h = refl
+  by_place_more (received q k c) h = refl
 
   -- what is left of the note of send k of process q, which is the only one at its place
   module _ (n E r q k : ℕ) (fewer : n ≤ 16) (few : p < 16) (lq : q < n) (in_List : (span_of spans q).start + k < length to) (pos : 0 < k)
@@ -141,15 +142,15 @@ module _ (spans : List Span) (p : ℕ) (to : List ℕ) where
     place_is : place_of (span_of spans (q % 16)) k ≡ i
     place_is = let m : q % 16 ≡ q = mod-eq_of_lt (omega arith) in rw (m, le-leb k (span_of spans q).count count)
 
-    pub struck_at : (h : History) → Legal n E r h → get_or (struck spans p h to) i 0 ≡ cond (eqb (get_or to i 0) p && has_receipt h q k) 16 (get_or to i 0)
-    struck_at [] legal = rw (and-false (eqb (get_or to i 0) p))
-    struck_at (basic m ∷ h) legal = struck_at h legal.1
-    struck_at (forced m ∷ h) legal = struck_at h legal.1
-    struck_at (sent d ∷ h) legal = struck_at h legal.1
-    struck_at (received q' k' c ∷ h) legal = go (ℕ_discrete x i) (struck_at h legal.1)
+    pub by_place_at : (h : History) → Legal n E r h → get_or (struck_by_place spans p h to) i 0 ≡ cond (eqb (get_or to i 0) p && has_receipt h q k) 16 (get_or to i 0)
+    by_place_at [] legal = rw (and-false (eqb (get_or to i 0) p))
+    by_place_at (basic m ∷ h) legal = by_place_at h legal.1
+    by_place_at (forced m ∷ h) legal = by_place_at h legal.1
+    by_place_at (sent d ∷ h) legal = by_place_at h legal.1
+    by_place_at (received q' k' c ∷ h) legal = go (ℕ_discrete x i) (by_place_at h legal.1)
       where
         u : List ℕ
-        u = struck spans p h to
+        u = struck_by_place spans p h to
 
         x : ℕ
         x = place_of (span_of spans (q' % 16)) k'
@@ -169,7 +170,7 @@ module _ (spans : List Span) (p : ℕ) (to : List ℕ) where
         go (yes z) f =
             let law = legal.0 in
             let m = place_only q' k' law.0 law.2 z in
-            let l = struck_length h in
+            let l = by_place_length h in
             rw (z, eq-eqb q' q m.0, eq-eqb k' k m.1, and-true (eqb d p), get_or-set_same u i (cond (eqb (get_or u i 0) p) 16 (get_or u i 0)) 0 (omega arith), f)
             (twice (eqb d p) (has_receipt h q k) refl)
         go (no z) f =
@@ -183,3 +184,73 @@ module _ (spans : List Span) (p : ℕ) (to : List ℕ) where
                 let f = eqb-true q' q y in
                 let g = eqb-true k' k b in
                 absurd (z (rw (f, g) place_is))
+
+-- ---- receipts struck, and nothing at place 0 for one whose send is not noted
+
+once_length : (p : ℕ) (x : Option ℕ) (to : List ℕ) → length (struck_once p x to) ≡ length to
+once_length p None to = refl
+once_length p (Some i) to = go (eqb (get_or to i 0) p)
+  where
+    go : (b : Bool) → length (cond b (set to i 16) to) ≡ length to
+    go true = length-set to i 16
+    go false = refl
+
+module _ (spans : List Span) (p : ℕ) (to : List ℕ) where
+  pub struck_length : (h : History) → length (struck spans p h to) ≡ length to
+  struck_length [] = refl
+  struck_length (basic m ∷ h) = struck_length h
+  struck_length (forced m ∷ h) = struck_length h
+  struck_length (sent q ∷ h) = struck_length h
+  struck_length (received q k c ∷ h) = once_length p (place_in (span_of spans (q % 16)) k) (struck spans p h to) ∙ struck_length h
+
+  -- behind place 0 it is the same by the places
+  pub struck_behind : (i : ℕ) → 0 < i → i < length to → (h : History) → get_or (struck spans p h to) i 0 ≡ get_or (struck_by_place spans p h to) i 0
+  struck_behind i pos in_List [] = refl
+  struck_behind i pos in_List (basic m ∷ h) = struck_behind i pos in_List h
+  struck_behind i pos in_List (forced m ∷ h) = struck_behind i pos in_List h
+  struck_behind i pos in_List (sent q ∷ h) = struck_behind i pos in_List h
+  struck_behind i pos in_List (received q k c ∷ h) = go (test (leb k span.count)) (struck_behind i pos in_List h)
+    where
+      span : Span
+      span = span_of spans (q % 16)
+
+      u : List ℕ
+      u = struck spans p h to
+
+      v : List ℕ
+      v = struck_by_place spans p h to
+
+      j : ℕ
+      j = span.start + k
+
+      -- at its place, and elsewhere
+      here : (b : Bool) → get_or u i 0 ≡ get_or v i 0 → get_or (cond b (set u i 16) u) i 0 ≡ get_or (set v i (cond b 16 (get_or v i 0))) i 0
+      here true f =
+          let m = struck_length h in
+          let n = by_place_length spans p to h in
+          get_or-set_same u i 16 0 (omega arith) ∙ sym (get_or-set_same v i 16 0 (omega arith))
+      here false f = f ∙ sym (ap (λ (l : List ℕ). get_or l i 0) (set-get_or v i 0))
+
+      off : j ≢ i → (b : Bool) → get_or (cond b (set u j 16) u) i 0 ≡ get_or u i 0
+      off ne true = get_or-set_other u j i 16 0 (λ z. ne (sym z))
+      off ne false = refl
+
+      at : Dec (j ≡ i) → get_or u i 0 ≡ get_or v i 0
+          → get_or (cond (eqb (get_or u j 0) p) (set u j 16) u) i 0 ≡ get_or (set v j (cond (eqb (get_or v j 0) p) 16 (get_or v j 0))) i 0
+      at (yes z) f = rw (z, f) (here (eqb (get_or v i 0) p) f)
+      at (no z) f = off z (eqb (get_or u j 0) p) ∙ f ∙ sym (get_or-set_other v j i (cond (eqb (get_or v j 0) p) 16 (get_or v j 0)) 0 (λ y. z (sym y)))
+
+      go : Test (leb k span.count) → get_or u i 0 ≡ get_or v i 0
+          → get_or (struck_once p (place_in span k) u) i 0
+          ≡ get_or (set v (place_of span k) (cond (eqb (get_or v (place_of span k) 0) p) 16 (get_or v (place_of span k) 0))) i 0
+      go (passes x) f = rw x (at (ℕ_discrete j i) f)
+      go (fails x) f = rw x (f ∙ sym (get_or-set_other v 0 i (cond (eqb (get_or v 0 0) p) 16 (get_or v 0 0)) 0 (λ y. absurd (omega (arith, y, pos)))))
+
+  -- what is left of the note of send k of process q, which is the only one at its place
+  module _ (n E r q k : ℕ) (fewer : n ≤ 16) (few : p < 16) (lq : q < n) (in_List : (span_of spans q).start + k < length to) (pos : 0 < k)
+      (count : k ≤ (span_of spans q).count)
+      (only : (q' k' : ℕ) → q' < n → 0 < k' → k' ≤ (span_of spans q').count → (span_of spans q').start + k' ≡ (span_of spans q).start + k → (q' ≡ q) × (k' ≡ k)) where
+    pub struck_at : (h : History) → Legal n E r h
+        → get_or (struck spans p h to) ((span_of spans q).start + k) 0
+        ≡ cond (eqb (get_or to ((span_of spans q).start + k) 0) p && has_receipt h q k) 16 (get_or to ((span_of spans q).start + k) 0)
+    struck_at h legal = struck_behind ((span_of spans q).start + k) (omega arith) in_List h ∙ by_place_at spans p to n E r q k fewer few lq in_List pos count only h legal

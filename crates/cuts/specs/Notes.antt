@@ -29,6 +29,21 @@ place_in span k = cond (leb k span.count) (Some (span.start + k)) None
 abbrev pub Inside : List Span → ℕ → Type 0
 Inside spans len = (q : ℕ) → (span_of spans q).start + (span_of spans q).count < len
 
+-- a list once the note at a place is struck from it if it is of process p: 16 is noted then
+abbrev pub struck_once : ℕ → Option ℕ → List ℕ → List ℕ
+struck_once p None to = to
+struck_once p (Some i) to = cond (eqb (get_or to i 0) p) (set to i 16) to
+
+-- the list once process p's receipts are struck from it
+abbrev pub struck : List Span → ℕ → History → List ℕ → List ℕ
+struck spans p [] to = to
+struck spans p (basic m ∷ h) to = struck spans p h to
+struck spans p (forced m ∷ h) to = struck spans p h to
+struck spans p (sent q ∷ h) to = struck spans p h to
+struck spans p (received q k c ∷ h) to = struck_once p (place_in (span_of spans (q % 16)) k) (struck spans p h to)
+
+-- ---- the same, and place 0 for a receipt whose send is not noted: nobody is noted there
+
 -- it is a receipt
 abbrev pub is_receipt : Event → Bool
 is_receipt (basic m) = false
@@ -36,17 +51,17 @@ is_receipt (forced m) = false
 is_receipt (sent q) = false
 is_receipt (received q k c) = true
 
--- the place at which a receipt looks for that note: 0, where nobody is noted, if it is not noted
+-- the place at which a receipt looks for that note: 0 if it is not noted
 abbrev pub place_of : Span → ℕ → ℕ
 place_of span k = cond (leb k span.count) (span.start + k) 0
 
 -- the list once process p's receipts are struck from it: where p is noted for one of them, 16
-abbrev pub struck : List Span → ℕ → History → List ℕ → List ℕ
-struck spans p [] to = to
-struck spans p (basic m ∷ h) to = struck spans p h to
-struck spans p (forced m ∷ h) to = struck spans p h to
-struck spans p (sent q ∷ h) to = struck spans p h to
-struck spans p (received q k c ∷ h) to =
-    let u = struck spans p h to in
+abbrev pub struck_by_place : List Span → ℕ → History → List ℕ → List ℕ
+struck_by_place spans p [] to = to
+struck_by_place spans p (basic m ∷ h) to = struck_by_place spans p h to
+struck_by_place spans p (forced m ∷ h) to = struck_by_place spans p h to
+struck_by_place spans p (sent q ∷ h) to = struck_by_place spans p h to
+struck_by_place spans p (received q k c ∷ h) to =
+    let u = struck_by_place spans p h to in
     let i = place_of (span_of spans (q % 16)) k in
     set u i (cond (eqb (get_or u i 0) p) 16 (get_or u i 0))

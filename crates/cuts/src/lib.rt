@@ -8,7 +8,7 @@ ghost use Rattle.rules.specs.FailureLine.{last_saved};
 ghost use Rattle.events.specs.Events.{meant, record_of, held};
 ghost use Rattle.cuts.specs.Parts.{counts};
 ghost use Rattle.cuts.specs.Tests.{late, noted_astray};
-ghost use Rattle.cuts.specs.Notes.{note_of, noted, place_in, Inside, is_receipt, struck};
+ghost use Rattle.cuts.specs.Notes.{note_of, noted, place_in, Inside, struck, is_receipt, struck_by_place};
 
 use events::{Event, Records, Test};
 
@@ -145,6 +145,23 @@ impl<'a> Test for Astray<'a> {
     }
 }
 
+// Strikes from the notes what process p has received: where p is noted for one of its receipts, 16 is noted instead.
+//
+// `Inside` is asked for here: a type that holds it, as `Astray` does, would be one of spans and notes, made for this call.
+pub fn strike(records: &Records, spans: &[Span; 16], p: u8, to: &mut [u8])
+    requires { Inside spans.now (length to.old) }
+    ensures { to.new ≡ struck spans.now p (held records.now) to.old }
+{
+    for i in 0..records.count {
+        if let Event::Received { from, k, .. } = records.get(i)
+            && let Some(x) = spans[(from % 16) as usize].place(k)
+            && to[x] == p
+        {
+            to[x] = 16;
+        }
+    }
+}
+
 // Whether a record is a receipt.
 fn is_receipt(event: Event) -> bool
     ensures { result ≡ is_receipt (meant event) }
@@ -159,7 +176,7 @@ fn is_receipt(event: Event) -> bool
 #[tactic(auto, using(crate::proofs::Notes::place_inside, crate::proofs::Notes::strike_next))]
 fn strike_one(records: &Records, i: usize, spans: &[Span; 16], p: u8, to: &mut [u8])
     requires { (i < records.now.count) × Inside spans.now (length to.old) }
-    ensures { to.new ≡ struck spans.now p (record_of records.now i ∷ []) to.old }
+    ensures { to.new ≡ struck_by_place spans.now p (record_of records.now i ∷ []) to.old }
 {
     let (q, k) = records.numbers(i);
     let x = spans[(q % 16) as usize].place(k).unwrap_or(0);
@@ -168,13 +185,11 @@ fn strike_one(records: &Records, i: usize, spans: &[Span; 16], p: u8, to: &mut [
     to[x] = shape::pick(got, 16, usize::from(d)) as u8;
 }
 
-// Strikes from the notes what process p has received.
-//
-// `Inside` is asked for here: a type that holds it, as `Astray` does, would be one of spans and notes, made for this call.
-#[tactic(auto, using(crate::proofs::Notes::struck_length, crate::proofs::Notes::struck_more))]
-pub fn strike(records: &Records, spans: &[Span; 16], p: u8, to: &mut [u8])
+// Strikes as `strike` does, and place 0 for a receipt whose send is not noted. Who notes nobody there has the same by it, with no branch.
+#[tactic(auto, using(crate::proofs::Notes::by_place_length, crate::proofs::Notes::by_place_more))]
+pub fn strike_by_place(records: &Records, spans: &[Span; 16], p: u8, to: &mut [u8])
     requires { Inside spans.now (length to.old) }
-    ensures { to.new ≡ struck spans.now p (held records.now) to.old }
+    ensures { to.new ≡ struck_by_place spans.now p (held records.now) to.old }
 {
     for i in 0..records.count {
         strike_one(records, i, spans, p, to);

@@ -20,8 +20,8 @@ use Rattle.records.proofs.Cuts.{upto_is_older}
 use Rattle.events.specs.declared.Records.{Records}
 use Rattle.events.specs.Events.{held}
 use Rattle.cuts.proofs.Scanned.{held_length}
-use Rattle.cuts.specs.Notes.{span_of, Inside, noted, struck}
-use Rattle.cuts.proofs.Notes.{struck_at, struck_length, noted_sent, noted_other, noted_length}
+use Rattle.cuts.specs.Notes.{span_of, Inside, noted, struck_by_place}
+use Rattle.cuts.proofs.Notes.{by_place_at, by_place_length, noted_sent, noted_other, noted_length}
 use Rattle.notes.specs.declared.cut.Cut.{Cut}
 use Rattle.notes.specs.declared.Senders.{Senders}
 use Rattle.layout.specs.declared.Table.{Table}
@@ -162,11 +162,11 @@ module _ (s : State) (cut : List ℕ) where
         go (no l) (no e) = rw (le-ltb d p (omega arith), le-ltb d (p + 1) (omega arith), ne_eqb d p e)
 
     strike_next : (n E p : ℕ) → n ≤ 16 → p < n → g.next ≤ n → Legal n E p (part s cut p) → (to : List ℕ) → g.many < length to
-        → Left s cut p g to → Left s cut (p + 1) g (struck g.spans p (part s cut p) to)
+        → Left s cut p g to → Left s cut (p + 1) g (struck_by_place g.spans p (part s cut p) to)
     strike_next n E p few lt less legal to room L q k a b c d =
         let past = group_past q a b in
         let count = G.count q a b in
-        struck_at g.spans p to n E p q k few (omega arith) (omega arith) (omega arith) c (omega arith)
+        by_place_at g.spans p to n E p q k few (omega arith) (omega arith) (omega arith) c (omega arith)
         (λ r j l x y z. group_only q k a b c d r j x y z) (part s cut p) legal
         ∙ ap (λ (x : ℕ). cond (eqb x p && has_receipt (part s cut p) q k) 16 x) (L q k a b c d) ∙ left_next p q k (omega arith)
 
@@ -224,10 +224,10 @@ module _ (t : Table) (cut : List ℕ) (g : Senders) (to : List ℕ) (N : NotedAt
 -- one receiver more
 module _ (c : Cut) (g : Senders) (to : List ℕ) where
   pub strike_turn : {p : ℕ} → Noted c p g to → p < c.table.n → {h : History} → h ≡ part (state_at c) (places c) p → {u : List ℕ}
-      → u ≡ struck g.spans p h to → Noted c (p + 1) g u × (length u ≡ length to)
+      → u ≡ struck_by_place g.spans p h to → Noted c (p + 1) g u × (length u ≡ length to)
   strike_turn {p} N lt i {u} x =
-      let e : u ≡ struck g.spans p (part (state_at c) (places c) p) to = x ∙ ap (λ (y : History). struck g.spans p y to) i in
-      let len = ap length e ∙ struck_length g.spans p to (part (state_at c) (places c) p) in
+      let e : u ≡ struck_by_place g.spans p (part (state_at c) (places c) p) to = x ∙ ap (λ (y : History). struck_by_place g.spans p y to) i in
+      let len = ap length e ∙ by_place_length g.spans p to (part (state_at c) (places c) p) in
       let room = N.room in (
         record {
           group = N.group;

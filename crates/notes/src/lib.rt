@@ -104,7 +104,7 @@ impl<'a> Room<'a> {
     {
         let cut = self.cut;
         for p in 0..cut.table.n {
-            cuts::strike(&cut.part(p), &senders.spans, p as u8, self.to);
+            cuts::strike_by_place(&cut.part(p), &senders.spans, p as u8, self.to);
         }
     }
 
