@@ -195,3 +195,32 @@ pub fn strike_by_place(records: &Records, spans: &[Span; 16], p: u8, to: &mut [u
         strike_one(records, i, spans, p, to);
     }
 }
+
+#[cfg(test)]
+mod tests {
+    use super::*;
+
+    // Process 2 receives message k of process 1, of which two are noted from place 0 on.
+    #[test]
+    fn strikes_what_is_noted(rt: HostRuntime) {
+        for (k, want, by_place) in [
+            (1, [2, 16, 2, 2], [2, 16, 2, 2]),
+            (2, [2, 2, 16, 2], [2, 2, 16, 2]),
+            (3, [2, 2, 2, 2], [16, 2, 2, 2]),
+        ] {
+            let bytes = [0, 0, 0, 4, 0, 0, 0, 1, 0, 0, 0, k, 0, 0, 0, 0];
+            let records = Records {
+                bytes: &bytes,
+                at: 0,
+                count: 1,
+            };
+            let spans = [Span { start: 0, count: 2 }; 16];
+            let mut to = [2; 4];
+            strike(&records, &spans, 2, &mut to);
+            assert_eq!(rt; to, want, "message {k}");
+            to = [2; 4];
+            strike_by_place(&records, &spans, 2, &mut to);
+            assert_eq!(rt; to, by_place, "message {k}");
+        }
+    }
+}
