@@ -42,7 +42,7 @@ struck spans p (forced m ∷ h) to = struck spans p h to
 struck spans p (sent q ∷ h) to = struck spans p h to
 struck spans p (received q k c ∷ h) to = struck_once p (place_in (span_of spans (q % 16)) k) (struck spans p h to)
 
--- ---- the same, and place 0 for a receipt whose send is not noted: nobody is noted there
+-- ---- the same, and place 0 for a receipt whose send is not noted: no send is noted there
 
 -- it is a receipt
 abbrev pub is_receipt : Event → Bool

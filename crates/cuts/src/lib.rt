@@ -170,7 +170,7 @@ fn is_receipt(event: Event) -> bool
 }
 
 // Strikes one record of process p from the notes: where p is noted for a receipt's send, 16 is noted instead. A send that is not noted is
-// looked up at place 0, where nobody is noted. A note is stored in any case, if only the one that stood there, and a record's numbers are
+// looked up at place 0, where no send is noted. A note is stored in any case, if only the one that stood there, and a record's numbers are
 // read whatever its kind, since which records are such receipts can't be foretold: with a branch for these the messages to send again took
 // up to half as long again.
 #[tactic(auto, using(crate::proofs::Notes::place_inside, crate::proofs::Notes::strike_next))]
@@ -185,7 +185,9 @@ fn strike_one(records: &Records, i: usize, spans: &[Span; 16], p: u8, to: &mut [
     to[x] = shape::pick(got, 16, usize::from(d)) as u8;
 }
 
-// Strikes as `strike` does, and place 0 for a receipt whose send is not noted. Who notes nobody there has the same by it, with no branch.
+// Strikes as `strike` does, with no branch: a receipt whose send is not noted strikes place 0, where no send is noted.
+//
+// `Inside` is asked for as by `strike`.
 #[tactic(auto, using(crate::proofs::Notes::by_place_length, crate::proofs::Notes::by_place_more))]
 pub fn strike_by_place(records: &Records, spans: &[Span; 16], p: u8, to: &mut [u8])
     requires { Inside spans.now (length to.old) }
