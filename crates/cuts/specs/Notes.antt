@@ -51,11 +51,11 @@ is_receipt (forced m) = false
 is_receipt (sent q) = false
 is_receipt (received q k c) = true
 
--- the place at which a receipt looks for that note: 0 if it is not noted
+-- where a receipt of send k looks for its note: at place 0 if it is not noted
 abbrev pub place_of : Span → ℕ → ℕ
 place_of span k = cond (leb k span.count) (span.start + k) 0
 
--- the list once process p's receipts are struck from it: where p is noted for one of them, 16
+-- the list once process p's receipts are struck from it at these places
 abbrev pub struck_by_place : List Span → ℕ → History → List ℕ → List ℕ
 struck_by_place spans p [] to = to
 struck_by_place spans p (basic m ∷ h) to = struck_by_place spans p h to

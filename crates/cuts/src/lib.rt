@@ -202,7 +202,7 @@ pub fn strike_by_place(records: &Records, spans: &[Span; 16], p: u8, to: &mut [u
 mod tests {
     use super::*;
 
-    // Process 2 receives message k of process 1, of which two are noted from place 0 on.
+    // Process 2 receives message k of process 1, of which two are noted, behind place 0.
     #[test]
     fn strikes_what_is_noted(rt: HostRuntime) {
         for (k, want, by_place) in [
